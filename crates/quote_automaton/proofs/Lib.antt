@@ -1,0 +1,4 @@
+pub mod RowEndSteps
+pub mod RowLaws
+pub mod RowStartSteps
+mod Worked
