@@ -46,10 +46,24 @@ fn words_are_refused_by_their_first_rule(rt: HostRuntime) -> Result<(), Fail> {
             WordRule::Conflict,
             3,
         ),
+        (
+            "load f.csv rejects_limit=0 store_rejects=false",
+            WordRule::Conflict,
+            2,
+        ),
+        (
+            "load f.csv store_rejects=false rejects_limit=0",
+            WordRule::Conflict,
+            3,
+        ),
         ("load f.csv names=a,b types=DATE", WordRule::Conflict, 3),
+        ("load f.csv types=DATE names=a,b", WordRule::Conflict, 3),
         ("load f.csv quote=; delim=;", WordRule::Conflict, 3),
+        ("load f.csv delim=; quote=;", WordRule::Conflict, 3),
         ("load f.csv delim=; escape=;", WordRule::Conflict, 3),
+        ("load f.csv escape=; delim=;", WordRule::Conflict, 3),
         ("load f.csv quote= escape=x", WordRule::Conflict, 3),
+        ("load f.csv escape=x quote=", WordRule::Conflict, 3),
         ("make x", WordRule::BadValue, 1),
         ("make 4294967296", WordRule::BadValue, 1),
     ] {
@@ -128,16 +142,20 @@ fn accepted_words_give_options(rt: HostRuntime) -> Result<(), Fail> {
 /// One past each end of a range, and the ends themselves.
 #[test]
 fn numbers_keep_their_ranges(rt: HostRuntime) -> Result<(), Fail> {
-    for (name, below, least, most, above) in [
-        ("skip", "", "0", "1000000", "1000001"),
-        ("sample_size", "0", "1", "1000000", "1000001"),
-        ("max_line_size", "0", "1", "4194304", "4194305"),
-        ("max_input", "0", "1", "4294967296", "4294967297"),
-        ("threads", "0", "1", "64", "65"),
-        ("range_size", "0", "1", "67108864", "67108865"),
+    let load = "load f.csv";
+    let stored = "load f.csv store_rejects=true";
+    for (front, name, below, least, most, above) in [
+        (load, "skip", "", "0", "1000000", "1000001"),
+        (load, "sample_size", "0", "1", "1000000", "1000001"),
+        (load, "max_line_size", "0", "1", "4194304", "4194305"),
+        (load, "max_input", "0", "1", "4294967296", "4294967297"),
+        (load, "threads", "0", "1", "64", "65"),
+        (load, "range_size", "0", "1", "67108864", "67108865"),
+        (stored, "rejects_limit", "", "0", "4294967295", "4294967296"),
+        ("make 7", "rows", "", "0", "10000000", "10000001"),
     ] {
         for (number, good) in [(below, false), (least, true), (most, true), (above, false)] {
-            let line = format!(in rt.alloc(); "load f.csv {name}={number}")?;
+            let line = format!(in rt.alloc(); "{front} {name}={number}")?;
             let words = words_of(rt.alloc(), &line)?;
             assert_eq!(rt; parse_words(rt.alloc(), &words).is_ok(), good, "{line}");
         }
