@@ -1,0 +1,56 @@
+-- Loops over all columns.
+use Rattle.std.proofs.Common.{◌≡◌, ◌≢◌, ℕ, ◌+◌, ◌<◌, ◌≤◌, refl, sym, ◌∙◌, subst, arith, List, length, get_or, set, inl, inr}
+use Rattle.std.proofs.lemmas.Bool.{cases_eq, cases_lt}
+use Rattle.std.proofs.lemmas.List.{length-set, get_or_default, get_or-set_same, get_or-set_other}
+use Rattle.column_store.specs.declared.column.Column.{Column}
+use Rattle.column_store.specs.ColumnChanges.{EachColumn}
+
+-- the columns before a place are changed, the others are as they were
+pub record SoFar (Changed : ℕ → Column → Column → Type 0) (place : ℕ) (old now : List Column) : Type 0 where
+  pub count : length now ≡ length old
+  pub before : (number : ℕ) (other : Column) → number < place → number < length old → Changed number (get_or old number other) (get_or now number other)
+  pub behind : (number : ℕ) (other : Column) → place ≤ number → get_or now number other ≡ get_or old number other
+
+module _ (Changed : ℕ → Column → Column → Type 0) where
+  pub none_yet : (columns : List Column) → SoFar Changed 0 columns columns
+  none_yet columns = record {
+    count = refl;
+    before = λ number other below within. absurd (let no : ⊥ = omega (arith, below) in no);
+    behind = λ number other low. refl;
+  }
+
+  pub one_more : (place : ℕ) (old now : List Column) (was column : Column) → SoFar Changed place old now → place < length now →
+      Changed place (get_or now place was) column → SoFar Changed (place + 1) old (set now place column)
+  one_more place old now was column so within changed = record {
+    count = length-set now place column ∙ so.count;
+    before = λ number other below inside. elim (cases_eq number place) [
+      | inl e ↦ subst (λ n. Changed n (get_or old n other) (get_or (set now place column) n other)) (sym e)
+          (subst (λ c. Changed place (get_or old place other) c) (sym (get_or-set_same now place column other within))
+          (subst (λ c. Changed place c column) (get_or_default now place was other within ∙ so.behind place other (omega arith)) changed))
+      | inr apart ↦ subst (λ c. Changed number (get_or old number other) c) (sym (get_or-set_other now place number column other apart))
+          (so.before number other (omega (arith, apart, below)) inside)
+    ];
+    behind = λ number other low. get_or-set_other now place number column other (let apart : number ≢ place = omega (arith, low) in apart)
+        ∙ so.behind number other (omega (arith, low));
+  }
+
+  pub every_one : (place : ℕ) (old now : List Column) → SoFar Changed place old now → length old ≤ place → EachColumn Changed old now
+  every_one place old now so end = record { count = so.count; each = λ number other within. so.before number other (omega (arith, within, end)) within }
+
+  -- where nothing is a change too
+  pub those_at_least : (place : ℕ) (old now : List Column) → SoFar Changed place old now → ((number : ℕ) (column : Column) → Changed number column column) → EachColumn Changed old now
+  those_at_least place old now so same = record {
+    count = so.count;
+    each = λ number other within. elim (cases_lt number place) [
+      | inl below ↦ so.before number other below within
+      | inr low ↦ subst (λ c. Changed number (get_or old number other) c) (sym (so.behind number other low)) (same number (get_or old number other))
+    ];
+  }
+
+pub so_far_weaker : (Strong Weak : ℕ → Column → Column → Type 0) → ((number : ℕ) (old new : Column) → Strong number old new → Weak number old new) →
+    (place : ℕ) (old now : List Column) → SoFar Strong place old now → SoFar Weak place old now
+so_far_weaker Strong Weak weaker place old now so = record {
+  count = so.count;
+  before = λ number other below within. weaker number (get_or old number other) (get_or now number other) (so.before number other below within);
+  behind = so.behind;
+}

@@ -1,0 +1,301 @@
+-- The columns of a chunk through its calls.
+use Rattle.std.proofs.Common.{◌≡◌, ◌≢◌, ℕ, zero, suc, ◌+◌, ◌-◌, ◌^◌, ◌<◌, ◌≤◌, refl, sym, ap, ◌∙◌, subst, arith, List, [], ◌∷◌, ◌++◌, length, get_or, set, take, map, inl, inr, Result, Ok, Err, true, Some}
+use Rattle.std.specs.Prelude.{All, OnErr, slice_get}
+use Rattle.std.proofs.lemmas.Bool.{cases_eq, cases_lt, and_parts, false≢true}
+use Rattle.std.proofs.lemmas.List.{length-append, length-map, length-set, length-take, get_or_default, get_or-set_same, get_or-set_other, get_or_push, map-set, map_push, take-take, take_more_set, take-set, take_all, take_at, take_more}
+use Rattle.std.proofs.lemmas.Option.{get_or_from_slice_get, none-some, same_Some, slice_get_within}
+use Rattle.value_types.specs.OfType.{fits, fit_all}
+use Rattle.value_types.specs.declared.types.ColumnType.{ColumnType}
+use Rattle.value_types.specs.Datum.{Datum, null}
+use Rattle.column_store.specs.ChunkView.{ChunkView}
+use Rattle.column_store.specs.declared.column.Column.{Column}
+use Rattle.column_store.specs.declared.column.Column.TheVariants as columns
+use Rattle.column_store.specs.ColumnCells.{cells_of, room_of, type_of}
+use Rattle.column_store.specs.ColumnChanges.{EachColumn, IsAppended, IsCut, KeepsCells, KeepsFront}
+use Rattle.column_store.specs.IsFilled.{IsFilled}
+use Rattle.column_store.specs.RowsOfColumns.{row_at, rows_of, FitsColumn}
+use Rattle.column_store.proofs.Options.{length-options}
+use Rattle.column_store.proofs.Rows.{joined_rows, rows_same, maps_same, rows_of-fewer}
+
+-- ---- a column
+
+-- as many cells as there are fit
+pub cells_fit : (column : Column) → length (cells_of column) ≤ room_of column
+cells_fit (columns.Boolean c) = simp length-map (omega (arith, length-options c.nulls.items c.values.items c.paired))
+cells_fit (columns.Bigint c) = simp length-map (omega (arith, length-options c.nulls.items c.values.items c.paired))
+cells_fit (columns.Date c) = simp length-map (omega (arith, length-options c.nulls.items c.values.items c.paired))
+cells_fit (columns.Time c) = simp length-map (omega (arith, length-options c.nulls.items c.values.items c.paired))
+cells_fit (columns.Timestamp c) = simp length-map (omega (arith, length-options c.nulls.items c.values.items c.paired))
+cells_fit (columns.Varchar c) = simp length-map (omega (arith, length-options c.nulls.items c.texts c.paired))
+
+-- ---- chunks
+
+pub filled_new : (columns : List Column) → All (λ column. cells_of column ≡ []) columns → IsFilled columns 0 0 0
+filled_new columns empty = record {
+  within = omega arith;
+  longer = λ number other below. absurd (let no : ⊥ = omega (arith, below) in no);
+  waiting = λ number other low inside. ap length (empty number other inside);
+  roomy = λ number other inside. omega arith;
+  countable = omega arith;
+}
+
+module _ (xs : List Column) (rows begun spare : ℕ) (filled : IsFilled xs rows begun spare) where
+  pub cells_at_least : (number : ℕ) (other : Column) → number < length xs → rows ≤ length (cells_of (get_or xs number other))
+  cells_at_least number other inside = elim (cases_lt number begun) [
+    | inl below ↦ omega (arith, filled.longer number other below)
+    | inr low ↦ omega (arith, filled.waiting number other low inside)
+  ]
+
+  -- ---- where each column keeps its front
+
+  module _ (ys : List Column) (front : EachColumn (λ _. KeepsFront) xs ys) where
+    pub kept_rows : rows_of (map cells_of ys) rows ≡ rows_of (map cells_of xs) rows
+    kept_rows = rows_same xs ys rows front.count (λ number other inside.
+        let cells : List Datum = cells_of (get_or ys number other) in
+        let old : List Datum = cells_of (get_or xs number other) in
+        sym (take-take rows (length old) cells (cells_at_least number other inside)) ∙ ap (take rows) (front.each number other inside).cells)
+
+    pub kept_types : map type_of ys ≡ map type_of xs
+    kept_types = maps_same type_of xs ys front.count (λ number other inside. (front.each number other inside).ty)
+
+    pub kept_room : (number : ℕ) (other : Column) → number < length ys → rows + spare ≤ room_of (get_or ys number other)
+    kept_room number other inside =
+        let within : number < length xs = omega (arith, front.count) in
+        omega (arith, filled.roomy number other within, (front.each number other within).room)
+
+  -- ---- where a column is set
+
+  module _ (column : Column) (inside : begun < length xs) (front : EachColumn (λ _. KeepsFront) xs (set xs begun column)) where
+    pub filled_push : length (cells_of column) ≡ rows + 1 → IsFilled (set xs begun column) rows (begun + 1) spare
+    filled_push here = record {
+      within = omega (arith, length-set xs begun column);
+      longer = λ number other below. elim (cases_eq number begun) [
+        | inl e ↦ ap (λ n. length (cells_of (get_or (set xs begun column) n other))) e ∙ ap (λ c. length (cells_of c)) (get_or-set_same xs begun column other inside) ∙ here
+        | inr apart ↦ ap (λ c. length (cells_of c)) (get_or-set_other xs begun number column other apart) ∙ filled.longer number other (omega (arith, apart, below))
+      ];
+      waiting = λ number other low within. ap (λ c. length (cells_of c)) (get_or-set_other xs begun number column other (let apart : number ≢ begun = omega (arith, low) in apart))
+          ∙ filled.waiting number other (omega (arith, low)) (omega (arith, within, length-set xs begun column));
+      roomy = kept_room (set xs begun column) front;
+      countable = filled.countable;
+    }
+
+    pub filled_still : length (cells_of column) ≡ rows → IsFilled (set xs begun column) rows begun spare
+    filled_still here = record {
+      within = omega (arith, length-set xs begun column);
+      longer = λ number other below. ap (λ c. length (cells_of c)) (get_or-set_other xs begun number column other (let apart : number ≢ begun = omega (arith, below) in apart)) ∙ filled.longer number other below;
+      waiting = λ number other low within. elim (cases_eq number begun) [
+        | inl e ↦ ap (λ n. length (cells_of (get_or (set xs begun column) n other))) e ∙ ap (λ c. length (cells_of c)) (get_or-set_same xs begun column other inside) ∙ here
+        | inr apart ↦ ap (λ c. length (cells_of c)) (get_or-set_other xs begun number column other apart) ∙ filled.waiting number other low (omega (arith, within, length-set xs begun column))
+      ];
+      roomy = kept_room (set xs begun column) front;
+      countable = filled.countable;
+    }
+
+    pub row_push : (cells : List Datum) (cell : Datum) → length cells ≡ rows → cells_of column ≡ cells ++ cell ∷ [] →
+        row_at (take (begun + 1) (map cells_of (set xs begun column))) rows ≡ row_at (take begun (map cells_of xs)) rows ++ cell ∷ []
+    row_push cells cell full is =
+        ap (λ cs. row_at (take (begun + 1) cs) rows) (map-set cells_of xs begun column)
+        ∙ ap (λ cs. row_at cs rows) (take_more_set (map cells_of xs) begun (cells_of column) (omega (arith, length-map xs cells_of)))
+        ∙ map_push (λ (c : List Datum). get_or c rows null) (take begun (map cells_of xs)) (cells_of column)
+        ∙ ap (λ d. row_at (take begun (map cells_of xs)) rows ++ d ∷ []) (ap (λ c. get_or c rows null) is ∙ get_or_push cells cell null rows full)
+
+    pub row_still : row_at (take begun (map cells_of (set xs begun column))) rows ≡ row_at (take begun (map cells_of xs)) rows
+    row_still = ap (λ cs. row_at (take begun cs) rows) (map-set cells_of xs begun column) ∙ ap (λ cs. row_at cs rows) (take-set (map cells_of xs) begun (cells_of column))
+
+  -- ---- where all columns are cut
+
+  module _ (ys : List Column) (fewer : ℕ) (few : fewer ≤ rows) (cut : EachColumn (λ _. IsCut fewer) xs ys) where
+    pub filled_cut : IsFilled ys fewer 0 spare
+    filled_cut = record {
+      within = omega arith;
+      longer = λ number other below. absurd (let no : ⊥ = omega (arith, below) in no);
+      waiting = λ number other low inside.
+          let within : number < length xs = omega (arith, cut.count, inside) in
+          let done = cut.each number other within in
+          ap length done.cells ∙ length-take fewer (cells_of (get_or xs number other)) ∙ (omega (arith, cells_at_least number other within));
+      roomy = λ number other inside.
+          let within : number < length xs = omega (arith, cut.count, inside) in
+          omega (arith, filled.roomy number other within, (cut.each number other within).room);
+      countable = omega (arith, filled.countable);
+    }
+
+    pub rows_cut : rows_of (map cells_of ys) fewer ≡ take fewer (rows_of (map cells_of xs) rows)
+    rows_cut = rows_same xs ys fewer cut.count (λ number other inside. ap (take fewer) (cut.each number other inside).cells ∙ take-take fewer fewer (cells_of (get_or xs number other)) (omega arith))
+        ∙ rows_of-fewer (map cells_of xs) rows fewer few
+
+    pub types_cut : map type_of ys ≡ map type_of xs
+    types_cut = maps_same type_of xs ys cut.count (λ number other inside. (cut.each number other inside).ty)
+
+  -- ---- where the row under way is finished
+
+  pub filled_finish : (left : ℕ) → begun ≡ length xs → left ≡ spare - 1 → rows + 1 < 2 ^ 64 → IsFilled xs (rows + 1) 0 left
+  filled_finish left all is fits = record {
+    within = omega arith;
+    longer = λ number other below. absurd (let no : ⊥ = omega (arith, below) in no);
+    waiting = λ number other low inside. filled.longer number other (omega (arith, all, inside));
+    roomy = λ number other inside. omega (arith, is, filled.roomy number other inside, filled.longer number other (omega (arith, all, inside)), cells_fit (get_or xs number other));
+    countable = omega (arith, is, fits, filled.countable);
+  }
+
+-- the cells of the row under way are as many as the columns that have one
+pub length_begun : (xs : List Column) (rows begun : ℕ) → begun ≤ length xs → length (row_at (take begun (map cells_of xs)) rows) ≡ begun
+length_begun xs rows begun within =
+    length-map (take begun (map cells_of xs)) (λ (cells : List Datum). get_or cells rows null) ∙ length-take begun (map cells_of xs) ∙ omega (arith, length-map xs cells_of)
+
+pub keeps_itself : (column : Column) → KeepsFront column column
+keeps_itself column = record { ty = refl; cells = take_all (length (cells_of column)) (cells_of column) (omega arith); room = omega arith }
+
+pub set_front : (xs : List Column) (place : ℕ) (was column : Column) → was ≡ get_or xs place was → place < length xs → KeepsFront was column → EachColumn (λ _. KeepsFront) xs (set xs place column)
+set_front xs place was column is inside keeps = record {
+  count = length-set xs place column;
+  each = λ number other within. elim (cases_eq number place) [
+    | inl e ↦ subst (λ n. KeepsFront (get_or xs n other) (get_or (set xs place column) n other)) (sym e)
+        (subst (λ c. KeepsFront (get_or xs place other) c) (sym (get_or-set_same xs place column other inside))
+        (subst (λ c. KeepsFront c column) (is ∙ get_or_default xs place was other inside) keeps))
+    | inr apart ↦ subst (λ c. KeepsFront (get_or xs number other) c) (sym (get_or-set_other xs place number column other apart)) (keeps_itself (get_or xs number other))
+  ];
+}
+
+-- a column that got a cell
+pub grown : (was column : Column) (cell : Datum) → type_of column ≡ type_of was → cells_of column ≡ cells_of was ++ cell ∷ [] → room_of was ≤ room_of column → KeepsFront was column
+grown was column cell ty cells room =
+    record { ty = ty; cells = ap (take (length (cells_of was))) cells ∙ take_at (cells_of was) (cell ∷ []) (length (cells_of was)) refl; room = room }
+
+-- a column that only got memory
+pub unchanged : (was column : Column) → type_of column ≡ type_of was → cells_of column ≡ cells_of was → room_of was ≤ room_of column → KeepsFront was column
+unchanged was column ty cells room =
+    record { ty = ty; cells = ap (take (length (cells_of was))) cells ∙ take_all (length (cells_of was)) (cells_of was) (omega arith); room = room }
+
+-- a cell fits only where there is a column
+pub column_there : (tys : List ColumnType) (number : ℕ) (cell : Datum) → FitsColumn tys number cell → number < length tys
+column_there [] number cell h = absurd h
+column_there (ty ∷ tys) zero cell h = omega arith
+column_there (ty ∷ tys) (suc number) cell h = let rest : number < length tys = column_there tys number cell h in omega arith
+
+pub same_view : {types types' : List ColumnType} {rows rows' : List (List Datum)} {unfinished unfinished' : List Datum} {spare spare' : ℕ} →
+    types ≡ types' → rows ≡ rows' → unfinished ≡ unfinished' → spare ≡ spare' →
+    ◌≡◌ {A = ChunkView} (record { types = types; rows = rows; unfinished = unfinished; spare = spare }) (record { types = types'; rows = rows'; unfinished = unfinished'; spare = spare' })
+same_view t r u s = λ i. record { types = t i; rows = r i; unfinished = u i; spare = s i }
+
+pub on_err : {T E Q : Type 0} (r : Result T E) → Q → OnErr r Q
+on_err (Ok x) q = tt
+on_err (Err e) q = q
+
+-- the next cell has a column
+pub next_inside : (xs : List Column) (rows begun : ℕ) (tys : List ColumnType) (unfinished : List Datum) (cell : Datum) → begun ≤ length xs → map type_of xs ≡ tys →
+    row_at (take begun (map cells_of xs)) rows ≡ unfinished → FitsColumn tys (length unfinished) cell → begun < length xs
+next_inside xs rows begun tys unfinished cell within types row fits =
+    let there : length unfinished < length tys = column_there tys (length unfinished) cell fits in
+    let a : length unfinished ≡ begun = ap length (sym row) ∙ length_begun xs rows begun within in
+    let b : length xs ≡ length tys = sym (length-map xs type_of) ∙ ap length types in
+    omega arith
+
+-- ---- where only the memory of the columns has changed
+
+pub each_weaker : (Strong Weak : ℕ → Column → Column → Type 0) → ((number : ℕ) (old new : Column) → Strong number old new → Weak number old new) → (xs ys : List Column) → EachColumn Strong xs ys → EachColumn Weak xs ys
+each_weaker Strong Weak weaker xs ys each =
+    record { count = each.count; each = λ number other inside. weaker number (get_or xs number other) (get_or ys number other) (each.each number other inside) }
+
+module _ (xs ys : List Column) (kept : EachColumn (λ _. KeepsCells) xs ys) where
+  pub same_cells : map cells_of ys ≡ map cells_of xs
+  same_cells = maps_same cells_of xs ys kept.count (λ number other inside. (kept.each number other inside).cells)
+
+  pub same_types : map type_of ys ≡ map type_of xs
+  same_types = maps_same type_of xs ys kept.count (λ number other inside. (kept.each number other inside).ty)
+
+  -- with so many spare rows as each column has room for
+  pub filled_kept : (rows begun spare more : ℕ) → IsFilled xs rows begun spare → ((number : ℕ) (other : Column) → number < length ys → rows + more ≤ room_of (get_or ys number other)) → rows + more < 2 ^ 64 → IsFilled ys rows begun more
+  filled_kept rows begun spare more filled roomy countable = record {
+    within = omega (arith, kept.count, filled.within);
+    longer = λ number other below. let inside : number < length xs = omega (arith, filled.within, below) in ap length (kept.each number other inside).cells ∙ filled.longer number other below;
+    waiting = λ number other low within. let inside : number < length xs = omega (arith, kept.count, within) in ap length (kept.each number other inside).cells ∙ filled.waiting number other low inside;
+    roomy = roomy;
+    countable = countable;
+  }
+
+  pub room_kept : (rows begun spare : ℕ) → IsFilled xs rows begun spare → (number : ℕ) (other : Column) → number < length ys → rows + spare ≤ room_of (get_or ys number other)
+  room_kept rows begun spare filled number other within =
+      let inside : number < length xs = omega (arith, kept.count, within) in
+      omega (arith, filled.roomy number other inside, (kept.each number other inside).room)
+
+-- columns that got cells and lost them again
+pub restored : (xs ys zs : List Column) (rows : ℕ) → All (λ column. length (cells_of column) ≡ rows) xs → EachColumn (λ _. KeepsFront) xs ys → EachColumn (λ _. IsCut rows) ys zs → EachColumn (λ _. KeepsCells) xs zs
+restored xs ys zs rows full front cut = record {
+  count = cut.count ∙ front.count;
+  each = λ number other inside.
+      let kept = front.each number other inside in
+      let back = cut.each number other (omega (arith, front.count, inside)) in
+      record {
+        ty = back.ty ∙ kept.ty;
+        cells = back.cells ∙ ap (λ n. take n (cells_of (get_or ys number other))) (sym (full number other inside)) ∙ kept.cells;
+        room = omega (arith, back.room, kept.room);
+      };
+}
+
+-- ---- where the cells of other columns are appended
+
+module _ (xs os ys : List Column) (rows more : ℕ) (full : All (λ column. length (cells_of column) ≡ rows) xs) (others_full : All (λ column. length (cells_of column) ≡ more) os)
+    (twins : length xs ≡ length os) (appended : EachColumn (IsAppended os) xs ys) where
+  cells_appended : (number : ℕ) (other : Column) → number < length xs → cells_of (get_or ys number other) ≡ cells_of (get_or xs number other) ++ cells_of (get_or os number other)
+  cells_appended number other inside =
+      (appended.each number other inside).cells ∙ ap (λ o. cells_of (get_or xs number other) ++ cells_of o) (get_or_default os number (get_or xs number other) other (omega (arith, twins, inside)))
+
+  pub length_appended : (number : ℕ) (other : Column) → number < length xs → length (cells_of (get_or ys number other)) ≡ rows + more
+  length_appended number other inside =
+      ap length (cells_appended number other inside) ∙ length-append (cells_of (get_or xs number other)) (cells_of (get_or os number other))
+      ∙ (omega (arith, full number other inside, others_full number other (omega (arith, twins, inside))))
+
+  pub filled_appended : (spare left : ℕ) → IsFilled xs rows 0 spare → left ≡ spare - more → rows + more < 2 ^ 64 → IsFilled ys (rows + more) 0 left
+  filled_appended spare left filled is fits = record {
+    within = omega arith;
+    longer = λ number other below. absurd (let no : ⊥ = omega (arith, below) in no);
+    waiting = λ number other low within. length_appended number other (omega (arith, appended.count, within));
+    roomy = λ number other within.
+        let inside : number < length xs = omega (arith, appended.count, within) in
+        omega (arith, is, filled.roomy number other inside, (appended.each number other inside).keeps.room, length_appended number other inside, cells_fit (get_or ys number other));
+    countable = omega (arith, is, fits, filled.countable);
+  }
+
+  pub types_appended : map type_of ys ≡ map type_of xs
+  types_appended = maps_same type_of xs ys appended.count (λ number other inside. (appended.each number other inside).keeps.ty)
+
+  pub rows_appended : rows_of (map cells_of ys) (rows + more) ≡ rows_of (map cells_of xs) rows ++ rows_of (map cells_of os) more
+  rows_appended = joined_rows xs os ys rows more full twins appended.count cells_appended
+
+-- ---- rows that are pushed
+
+pub fit_lengths : (tys : List ColumnType) (cells : List Datum) → fit_all tys cells ≡ true → length cells ≡ length tys
+fit_lengths [] [] h = refl
+fit_lengths [] (cell ∷ cells) h = absurd (false≢true h)
+fit_lengths (ty ∷ tys) [] h = absurd (false≢true h)
+fit_lengths (ty ∷ tys) (cell ∷ cells) h = ap suc (fit_lengths tys cells (and_parts (fits ty cell) (fit_all tys cells) h).1)
+
+fits_each : (tys : List ColumnType) (cells : List Datum) (number : ℕ) (cell : Datum) → fit_all tys cells ≡ true → slice_get cells number ≡ Some cell → FitsColumn tys number cell
+fits_each [] [] number cell h is = absurd (none-some cell is)
+fits_each [] (c ∷ cells) number cell h is = absurd (false≢true h)
+fits_each (ty ∷ tys) [] number cell h is = absurd (false≢true h)
+fits_each (ty ∷ tys) (c ∷ cells) zero cell h is = ap (fits ty) (sym (same_Some c cell is)) ∙ (and_parts (fits ty c) (fit_all tys cells) h).0
+fits_each (ty ∷ tys) (c ∷ cells) (suc number) cell h is = fits_each tys cells number cell (and_parts (fits ty c) (fit_all tys cells) h).1 is
+
+pub fits_next : (tys : List ColumnType) (cells : List Datum) (number : ℕ) (cell : Datum) (types : List ColumnType) (unfinished : List Datum) → types ≡ tys → unfinished ≡ take number cells → number ≤ length cells →
+    fit_all tys cells ≡ true → slice_get cells number ≡ Some cell → FitsColumn types (length unfinished) cell
+fits_next tys cells number cell types unfinished t u within h is =
+    let count : number ≡ length unfinished = sym (ap length u ∙ length-take number cells ∙ omega arith) in
+    subst (λ n. FitsColumn types n cell) count (subst (λ ts. FitsColumn ts number cell) (sym t) (fits_each tys cells number cell h is))
+
+pub take_next : (cells : List Datum) (number : ℕ) (cell : Datum) → slice_get cells number ≡ Some cell → take number cells ++ cell ∷ [] ≡ take (number + 1) cells
+take_next cells number cell is =
+    ap (λ d. take number cells ++ d ∷ []) (sym (get_or_from_slice_get cells number cell null is)) ∙ sym (take_more cells number null (slice_get_within cells number cell is))
+
+-- no row is under way
+pub none_begun : (xs : List Column) (rows begun : ℕ) (unfinished : List Datum) → begun ≤ length xs → row_at (take begun (map cells_of xs)) rows ≡ unfinished → unfinished ≡ [] → begun ≡ 0
+none_begun xs rows begun unfinished within row none = sym (length_begun xs rows begun within) ∙ ap length (row ∙ none)
+
+pub all_full : (xs : List Column) (rows begun spare : ℕ) → IsFilled xs rows begun spare → begun ≡ 0 → All (λ column. length (cells_of column) ≡ rows) xs
+all_full xs rows begun spare filled none number other inside = filled.waiting number other (omega (arith, none)) inside
+
+pub filled_total : (xs os ys : List Column) (rows more : ℕ) → All (λ column. length (cells_of column) ≡ rows) xs → All (λ column. length (cells_of column) ≡ more) os →
+    length xs ≡ length os → EachColumn (IsAppended os) xs ys → (begun spare total left : ℕ) → IsFilled xs rows begun spare → begun ≡ 0 → total ≡ rows + more → left ≡ spare - more → total < 2 ^ 64 → IsFilled ys total begun left
+filled_total xs os ys rows more full others_full twins appended begun spare total left filled none is left_is fits =
+    subst (λ b. IsFilled ys total b left) (sym none) (subst (λ t. IsFilled ys t 0 left) (sym is)
+    (filled_appended xs os ys rows more full others_full twins appended spare left (subst (λ b. IsFilled xs rows b spare) none filled) left_is (omega (arith, is, fits))))

@@ -1,0 +1,6 @@
+pub mod Options
+pub mod CutCells
+pub mod ColumnLoops
+pub mod Rows
+pub mod Filled
+pub mod Stack

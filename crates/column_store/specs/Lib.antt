@@ -1,0 +1,9 @@
+pub mod TableView
+pub mod Nullable
+pub mod ColumnCells
+pub mod RowsOfColumns
+pub mod ChunkView
+pub mod ColumnChanges
+pub mod IsFilled
+pub mod Stacked
+pub mod Ends

@@ -1,0 +1,95 @@
+// Values that may be null.
+ghost use Rattle.std.specs.Prelude.{◌≡◌, ◌≤◌, ◌<◌, ◌+◌, ◌++◌, ◌∷◌, [], length, slice_get, take, Some, OnErr, OnOk};
+ghost use Rattle.std.specs.Option.{option_map};
+
+use csv_source::NoMemory;
+use std::alloc::Global;
+
+/// Values of one type, each with a mark beside it: where it is null, the value counts for nothing.
+#[derive(Drop)]
+pub(crate) struct Nullable<T> {
+    nulls: Vec<bool>,
+    values: Vec<T>,
+    ghost paired: { length nulls.items ≡ length values.items },
+}
+
+impl<T: Copy + Default> Nullable<T> {
+    ghost use Rattle.column_store.specs.Nullable.{options, room};
+
+    pub(crate) fn new(alloc: Global) -> Nullable<T>
+        ensures { options result ≡ [] }
+    {
+        Nullable {
+            nulls: Vec::new(alloc),
+            values: Vec::new(alloc),
+        }
+    }
+
+    pub(crate) fn len(&self) -> usize
+        ensures { result ≡ length (options self.now) }
+    {
+        self.nulls.len()
+    }
+
+    pub(crate) fn get(&self, row: usize) -> Option<T>
+        requires { row < length (options self.now) }
+        ensures { slice_get (options self.now) row ≡ Some result }
+    {
+        if self.nulls[row] {
+            None
+        } else {
+            Some(self.values[row])
+        }
+    }
+
+    pub(crate) fn reserve(&mut self, more: usize) -> Result<(), NoMemory>
+        ensures value { options self.new ≡ options self.old }
+        ensures ok { OnOk result (length (options self.old) + more ≤ room self.new) }
+        ensures room { room self.old ≤ room self.new }
+    {
+        self.nulls.reserve(more)?;
+        self.values.reserve(more)?;
+        Ok(())
+    }
+
+    pub(crate) fn push(&mut self, value: Option<T>) -> Result<(), NoMemory>
+        ensures ok { OnOk result (options self.new ≡ options self.old ++ value ∷ []) }
+        ensures err { OnErr result (options self.new ≡ options self.old) }
+        ensures room { room self.old ≤ room self.new }
+    {
+        self.reserve(1)?;
+        self.push_reserved(value);
+        Ok(())
+    }
+
+    pub(crate) fn push_reserved(&mut self, value: Option<T>)
+        requires { length (options self.old) < room self.old }
+        ensures value { options self.new ≡ options self.old ++ value ∷ [] }
+        ensures room { room self.new ≡ room self.old }
+    {
+        self.nulls.push_reserved(value.is_none());
+        self.values.push_reserved(match value {
+            Some(value) => value,
+            None => T::default(),
+        });
+    }
+
+    pub(crate) fn append(&mut self, other: &Nullable<T>) -> Result<(), NoMemory>
+        ensures ok { OnOk result (options self.new ≡ options self.old ++ options other.now) }
+        ensures err { OnErr result (options self.new ≡ options self.old) }
+        ensures room { room self.old ≤ room self.new }
+    {
+        self.reserve(other.len())?;
+        self.nulls.extend_from_slice(&other.nulls)?;
+        self.values.extend_from_slice(&other.values)?;
+        Ok(())
+    }
+
+    pub(crate) fn truncate(&mut self, count: usize)
+        ensures value { options self.new ≡ take count (options self.old) }
+        ensures room { room self.new ≡ room self.old }
+    {
+        self.nulls.truncate(count);
+        self.values.truncate(count);
+    }
+}

@@ -1,0 +1,93 @@
+// Texts that may be null.
+ghost use Rattle.std.specs.Prelude.{◌≡◌, ◌≤◌, ◌<◌, ◌+◌, ◌++◌, ◌∷◌, [], length, slice_get, take, vec_capacity, Some, OnErr, OnOk};
+ghost use Rattle.std.specs.Option.{option_copied};
+
+use csv_source::NoMemory;
+use std::alloc::Global;
+use value_types::Texts;
+
+/// Texts, each with a mark beside it: where it is null, the text is empty.
+#[derive(Drop)]
+pub(crate) struct NullableTexts {
+    nulls: Vec<bool>,
+    texts: Texts,
+    ghost paired: { length nulls.items ≡ length texts },
+}
+
+impl NullableTexts {
+    ghost use Rattle.column_store.specs.Nullable.{texts_or_null};
+
+    pub(crate) fn new(alloc: Global) -> NullableTexts
+        ensures { texts_or_null result ≡ [] }
+    {
+        NullableTexts {
+            nulls: Vec::new(alloc),
+            texts: Texts::new(alloc),
+        }
+    }
+
+    pub(crate) fn len(&self) -> usize
+        ensures { result ≡ length (texts_or_null self.now) }
+    {
+        self.nulls.len()
+    }
+
+    pub(crate) fn get(&self, row: usize) -> Option<&[u8]>
+        requires { row < length (texts_or_null self.now) }
+        ensures { slice_get (texts_or_null self.now) row ≡ Some (option_copied result) }
+    {
+        if self.nulls[row] {
+            None
+        } else {
+            Some(self.texts.get(row))
+        }
+    }
+
+    /// Reserves room for marks; that of the texts depends on their lengths.
+    pub(crate) fn reserve(&mut self, more: usize) -> Result<(), NoMemory>
+        ensures value { texts_or_null self.new ≡ texts_or_null self.old }
+        ensures ok { OnOk result (length (texts_or_null self.old) + more ≤ vec_capacity self.new.nulls) }
+        ensures room { vec_capacity self.old.nulls ≤ vec_capacity self.new.nulls }
+    {
+        self.nulls.reserve(more)?;
+        Ok(())
+    }
+
+    pub(crate) fn push(&mut self, text: Option<&[u8]>) -> Result<(), NoMemory>
+        ensures ok { OnOk result (texts_or_null self.new ≡ texts_or_null self.old ++ option_copied text.entry ∷ []) }
+        ensures err { OnErr result (texts_or_null self.new ≡ texts_or_null self.old) }
+        ensures room { vec_capacity self.old.nulls ≤ vec_capacity self.new.nulls }
+    {
+        self.nulls.reserve(1)?;
+        match text {
+            Some(text) => {
+                self.texts.push(text)?;
+                self.nulls.push_reserved(false);
+            }
+            None => {
+                self.texts.push(b"")?;
+                self.nulls.push_reserved(true);
+            }
+        }
+        Ok(())
+    }
+
+    pub(crate) fn append(&mut self, other: &NullableTexts) -> Result<(), NoMemory>
+        ensures ok { OnOk result (texts_or_null self.new ≡ texts_or_null self.old ++ texts_or_null other.now) }
+        ensures err { OnErr result (texts_or_null self.new ≡ texts_or_null self.old) }
+        ensures room { vec_capacity self.old.nulls ≤ vec_capacity self.new.nulls }
+    {
+        self.nulls.reserve(other.nulls.len())?;
+        self.texts.append(&other.texts)?;
+        self.nulls.extend_from_slice(&other.nulls)?;
+        Ok(())
+    }
+
+    pub(crate) fn truncate(&mut self, count: usize)
+        ensures value { texts_or_null self.new ≡ take count (texts_or_null self.old) }
+        ensures room { vec_capacity self.new.nulls ≡ vec_capacity self.old.nulls }
+    {
+        self.nulls.truncate(count);
+        self.texts.truncate(count);
+    }
+}
