@@ -1,0 +1,4 @@
+pub mod ColumnSteps
+pub mod Counting
+pub mod Rooms
+mod Worked

@@ -1,0 +1,90 @@
+-- What taps have seen of rows.
+use Rattle.std.specs.Prelude.{◌≡◌, ℕ, ◌+◌, ◌<◌, ◌^◌, max, List, [], ◌∷◌, length, Option, Some, None, fold, count_by, Bool, true, false, ℤ, ⊤}
+use Rattle.std.specs.Int.{int_min, int_max}
+use Rattle.value_types.specs.declared.types.Value.{Value}
+use Rattle.value_types.specs.declared.types.Value.TheVariants as values
+use Rattle.value_types.specs.Datum.{Datum, null, typed, text}
+use Rattle.column_taps.specs.declared.kind.TapKind.{TapKind}
+use Rattle.column_taps.specs.declared.kind.TapKind.TheVariants as kinds
+use Rattle.column_taps.specs.declared.span.Extent.{Extent}
+use Rattle.column_taps.specs.declared.width.Width.{Width}
+
+-- how many rows and how many cells that aren't null; of each column its extent, where it had a number; of each column its width, where it had a text
+pub data Seen : Type 0 where
+  counted : ℕ → ℕ → Seen
+  spanned : List (Option Extent) → Seen
+  measured : List (Option Width) → Seen
+
+-- the kind of the tap that has seen it
+abbrev pub kind_of : Seen → TapKind
+kind_of (counted rows cells) = kinds.Count
+kind_of (spanned extents) = kinds.Span
+kind_of (measured widths) = kinds.Width
+
+-- what a tap of a kind has seen before any row
+abbrev pub nothing_seen : TapKind → Seen
+nothing_seen kinds.Count = counted 0 0
+nothing_seen kinds.Span = spanned []
+nothing_seen kinds.Width = measured []
+
+-- whether a cell isn't null
+abbrev pub is_filled : Datum → Bool
+is_filled null = false
+is_filled (typed value) = true
+is_filled (text bytes) = true
+
+-- an extent that takes in a number
+abbrev pub taking_in : Option Extent → ℤ → Option Extent
+taking_in None n = Some (record { least = n; greatest = n })
+taking_in (Some extent) n = Some (record { least = int_min extent.least n; greatest = int_max extent.greatest n })
+
+-- an extent with a value of its column: numbers alone count
+abbrev pub extent_with_value : Option Extent → Value → Option Extent
+extent_with_value extent (values.Int n) = taking_in extent n
+extent_with_value extent (values.Bool b) = extent
+extent_with_value extent (values.Date day) = extent
+extent_with_value extent (values.Time micros) = extent
+extent_with_value extent (values.Stamp stamp) = extent
+
+-- an extent with a cell of its column
+abbrev pub extent_with : Option Extent → Datum → Option Extent
+extent_with extent null = extent
+extent_with extent (typed value) = extent_with_value extent value
+extent_with extent (text bytes) = extent
+
+-- the greater of a width so far and another
+abbrev pub wider : Option Width → ℕ → Option Width
+wider None n = Some (record { bytes = n })
+wider (Some width) n = Some (record { bytes = max width.bytes n })
+
+-- a width with a cell of its column: texts alone count, also empty ones
+abbrev pub width_with : Option Width → Datum → Option Width
+width_with width null = width
+width_with width (typed value) = width
+width_with width (text bytes) = wider width (length bytes)
+
+-- what is known of each column, with the cell of a row added; of a column that is new nothing was known
+abbrev pub by_column : {S : Type 0} → (Option S → Datum → Option S) → List (Option S) → List Datum → List (Option S)
+by_column add known [] = known
+by_column add [] (cell ∷ cells) = add None cell ∷ by_column add [] cells
+by_column add (k ∷ known) (cell ∷ cells) = add k cell ∷ by_column add known cells
+
+-- what is seen with one row more
+abbrev pub seen_next : Seen → List Datum → Seen
+seen_next (counted rows cells) row = counted (rows + 1) (cells + count_by is_filled row)
+seen_next (spanned extents) row = spanned (by_column extent_with extents row)
+seen_next (measured widths) row = measured (by_column width_with widths row)
+
+-- what is seen after some rows
+abbrev pub seen_after : Seen → List (List Datum) → Seen
+seen_after seen rows = fold seen_next seen rows
+
+-- the counts can grow
+abbrev pub HasRoom : Seen → Type 0
+HasRoom (counted rows cells) = (rows < 2 ^ 62) × (cells < 2 ^ 62)
+HasRoom (spanned extents) = ⊤
+HasRoom (measured widths) = ⊤
+
+-- nothing is seen yet
+abbrev pub IsFresh : Seen → Type 0
+IsFresh seen = seen ≡ nothing_seen (kind_of seen)

@@ -1,0 +1,107 @@
+// A tap of the least and the greatest numbers.
+ghost use Rattle.std.specs.Prelude.{◌≡◌, ◌++◌, Some, OnOk, OnErr};
+ghost use Rattle.value_types.specs.Datum.{datum_of};
+ghost use Rattle.column_taps.specs.declared.kind.TapKind.TheVariants.{Span};
+ghost use Rattle.column_taps.specs.Seen.{nothing_seen, taking_in, extent_with};
+ghost use Rattle.column_taps.specs.SeenLines.{extent_line};
+
+use crate::columns::{Known, add_row, write_columns};
+use crate::lines::push_line;
+use crate::{RowTap, TapKind};
+use csv_source::NoMemory;
+use itoa::Buffer;
+use std::alloc::Global;
+use value_types::{Cell, Cells, Value};
+
+/// The least and the greatest number so far.
+#[derive(Clone, Copy)]
+pub(crate) struct Extent {
+    least: i64,
+    greatest: i64,
+}
+
+/// An extent that takes in a number.
+fn taking_in(extent: Option<Extent>, number: i64) -> Extent
+    ensures { Some result ≡ taking_in extent number }
+{
+    match extent {
+        None => Extent {
+            least: number,
+            greatest: number,
+        },
+        Some(extent) => Extent {
+            least: extent.least.min(number),
+            greatest: extent.greatest.max(number),
+        },
+    }
+}
+
+impl Known for Extent {
+    ghost with = { extent_with };
+
+    ghost line = { extent_line };
+
+    fn with(extent: Option<Extent>, cell: Cell<'_>) -> Option<Extent>
+        ensures { result ≡ extent_with extent (datum_of cell.entry) }
+    {
+        match cell {
+            Cell::Value(Value::Int(number)) => Some(taking_in(extent, number)),
+            _ => extent,
+        }
+    }
+
+    fn push_line(column: usize, extent: Option<Extent>, into: &mut Vec<u8>) -> Result<(), NoMemory>
+        ensures ok { OnOk result (into.new.items ≡ into.old.items ++ extent_line column extent) }
+        ensures err { OnErr result (into.new.items ≡ into.old.items) }
+    {
+        let Some(extent) = extent else {
+            return Ok(());
+        };
+        let (mut place, mut least, mut greatest) = (Buffer::new(), Buffer::new(), Buffer::new());
+        push_line(
+            &[
+                b"span",
+                place.format(column).as_bytes(),
+                least.format(extent.least).as_bytes(),
+                greatest.format(extent.greatest).as_bytes(),
+            ],
+            into,
+        )
+    }
+}
+
+/// Keeps the least and the greatest BIGINT of each column that had one. Its lines are
+/// `tap|span|COLUMN|LEAST|GREATEST`, with columns counted from 0.
+#[derive(Drop)]
+pub struct SpanTap {
+    extents: Vec<Option<Extent>>,
+}
+
+impl SpanTap {
+    /// Has seen nothing.
+    pub fn new(alloc: Global) -> SpanTap
+        ensures { ⟦<SpanTap as RowTap>⟧.seen result ≡ nothing_seen Span }
+    {
+        SpanTap {
+            extents: Vec::new(alloc),
+        }
+    }
+}
+
+impl RowTap for SpanTap {
+    ghost use Rattle.column_taps.specs.Seen.{spanned};
+
+    ghost seen = { λ tap. spanned tap.extents.items };
+
+    fn kind(&self) -> TapKind {
+        TapKind::Span
+    }
+
+    fn take(&mut self, row: &Cells) -> Result<(), NoMemory> {
+        add_row(&mut self.extents, row)
+    }
+
+    fn write_lines(&self, into: &mut Vec<u8>) -> Result<(), NoMemory> {
+        write_columns(&self.extents, into)
+    }
+}
