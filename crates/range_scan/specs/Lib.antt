@@ -1,0 +1,4 @@
+pub mod Laws
+pub mod Part
+pub mod Scanned
+pub mod Steps
