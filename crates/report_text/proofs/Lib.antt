@@ -1,0 +1,5 @@
+pub mod Chunks
+pub mod RunTexts
+pub mod Texts
+pub mod TwoDigits
+mod Worked

@@ -1,0 +1,106 @@
+-- Runs of ordinary bytes: their masks, their lengths and their texts.
+use Rattle.std.proofs.Common.{◌≡◌, ℕ, zero, suc, ◌+◌, ◌*◌, ◌^◌, ◌<◌, ◌≤◌, Bool, true, false, cond, ◌||◌, List, [], ◌∷◌, ◌++◌, map, length, take, drop, refl, sym, ◌∙◌, ap, ap₂, arith, not, append_assoc, eqb, ltb, get_or, drop-cons}
+use Rattle.std.specs.List.{prefix_len}
+use Rattle.std.proofs.lemmas.Bool.{ne_eqb, ltb-false}
+use Rattle.std.proofs.lemmas.List.{drop-drop}
+use Rattle.std.proofs.lemmas.Nat.{or_block}
+use lib.Bits.{bit_or}
+use lib.Lanes.{mask_l}
+use Rattle.csv_source.specs.Shown.{shown, shown_byte}
+use Rattle.report_text.specs.Ordinary.{is_ordinary, is_spelled}
+
+either : (a b : Bool) → bit_or (cond a 1 0) (cond b 1 0) ≡ cond (a || b) 1 0
+either true true = refl
+either true false = refl
+either false true = refl
+either false false = refl
+
+small : (b : Bool) → cond {A = ℕ} b 1 0 < 2 ^ 1
+small true = omega arith
+small false = omega arith
+
+-- the lanes that pass one of two tests
+pub or_mask : {X : Type 0} (p q : X → Bool) (xs : List X) → bit_or (mask_l (map p xs)) (mask_l (map q xs)) ≡ mask_l (map (λ x. p x || q x) xs)
+or_mask p q [] = refl
+or_mask p q (x ∷ xs) =
+    let a : ℕ = mask_l (map p xs) in
+    let b : ℕ = mask_l (map q xs) in
+    let left : cond (p x) 1 0 + 2 * a ≡ a * 2 ^ 1 + cond (p x) 1 0 = omega arith in
+    let right : cond (q x) 1 0 + 2 * b ≡ b * 2 ^ 1 + cond (q x) 1 0 = omega arith in
+    let whole : bit_or a b * 2 ^ 1 + cond (p x || q x) 1 0 ≡ cond (p x || q x) 1 0 + 2 * bit_or a b = omega arith in
+    ap₂ bit_or left right ∙ or_block 1 a b (cond (p x) 1 0) (cond (q x) 1 0) (small (p x)) (small (q x))
+    ∙ ap (λ n. bit_or a b * 2 ^ 1 + n) (either (p x) (q x))
+    ∙ whole ∙ ap (λ n. cond (p x || q x) 1 0 + 2 * n) (or_mask p q xs)
+
+module _ {X : Type 0} (p : X → Bool) where
+  -- a front that passes whole is a part of the run
+  pub run_on : (n : ℕ) (xs : List X) → prefix_len p (take n xs) ≡ n → prefix_len p xs ≡ n + prefix_len p (drop n xs)
+  run_on zero xs h = omega arith
+  run_on (suc n) [] h = absurd (let no : ⊥ = omega (arith, h) in no)
+  run_on (suc n) (x ∷ xs) h =
+      (elim (p x) as (λ b. cond b (1 + prefix_len p (take n xs)) 0 ≡ suc n → cond b (1 + prefix_len p xs) 0 ≡ suc n + prefix_len p (drop n xs)) [
+        | true ↦ λ e. (let rest = run_on n xs (omega (arith, e)) in omega (arith, rest))
+        | false ↦ λ e. absurd (let no : ⊥ = omega (arith, e) in no)
+      ]) h
+
+  -- a run that ends in a front
+  pub run_ends : (n : ℕ) (xs : List X) → n ≤ length xs → prefix_len p (take n xs) < n → prefix_len p xs ≡ prefix_len p (take n xs)
+  run_ends zero xs le h = absurd (let no : ⊥ = omega (arith, h) in no)
+  run_ends (suc n) [] le h = absurd (let no : ⊥ = omega (arith, le) in no)
+  run_ends (suc n) (x ∷ xs) le h =
+      (elim (p x) as (λ b. cond b (1 + prefix_len p (take n xs)) 0 < suc n → cond b (1 + prefix_len p xs) 0 ≡ cond b (1 + prefix_len p (take n xs)) 0) [
+        | true ↦ λ lt. ap (λ k. 1 + k) (run_ends n xs (omega (arith, le)) (omega (arith, lt)))
+        | false ↦ λ lt. refl
+      ]) h
+
+neither : (a b : Bool) → (a || b) ≡ false → (a ≡ false) × (b ≡ false)
+neither true b h = absurd (let no : ⊥ = cc in no)
+neither false true h = absurd (let no : ⊥ = cc in no)
+neither false false h = (refl, refl)
+
+not_true : (b : Bool) → not b ≡ true → b ≡ false
+not_true true h = absurd (let no : ⊥ = cc in no)
+not_true false h = refl
+
+-- an ordinary byte stands for itself
+plain_byte : (x : ℕ) → is_ordinary x ≡ true → shown_byte x ≡ x ∷ []
+plain_byte x h =
+    let four = neither ((eqb x 92 || eqb x 124) || eqb x 127) (ltb x 32) (not_true (is_spelled x) h) in
+    let three = neither (eqb x 92 || eqb x 124) (eqb x 127) four.0 in
+    let two = neither (eqb x 92) (eqb x 124) three.0 in
+    let high : 32 ≤ x = ltb-false x 32 four.1 in
+    let a : eqb x 92 ≡ false = two.0 in
+    let b : eqb x 124 ≡ false = two.1 in
+    let c : eqb x 10 ≡ false = ne_eqb x 10 (λ e. omega (arith, e, high)) in
+    let d : eqb x 13 ≡ false = ne_eqb x 13 (λ e. omega (arith, e, high)) in
+    let e : eqb x 9 ≡ false = ne_eqb x 9 (λ e. omega (arith, e, high)) in
+    let f : ltb x 32 ≡ false = four.1 in
+    let g : eqb x 127 ≡ false = three.1 in
+    rw (a, b, c, d, e, f, g) refl
+
+front : (b : Bool) (k n : ℕ) → suc k ≤ cond b (1 + n) 0 → (b ≡ true) × (k ≤ n)
+front true k n h = (refl, omega (arith, h))
+front false k n h = absurd (let no : ⊥ = omega (arith, h) in no)
+
+-- a part of a run stands for itself
+shown_run : (k : ℕ) (xs : List ℕ) → k ≤ prefix_len is_ordinary xs → shown xs ≡ take k xs ++ shown (drop k xs)
+shown_run zero xs h = refl
+shown_run (suc k) [] h = refl
+shown_run (suc k) (x ∷ xs) h =
+    let fits = front (is_ordinary x) k (prefix_len is_ordinary xs) h in
+    ap₂ (λ a b. a ++ b) (plain_byte x fits.0) (shown_run k xs fits.1)
+
+-- a run that was appended, with what stands behind it
+pub run_text : (old new bytes : List ℕ) (at end k : ℕ) → end ≡ at + k → k ≤ prefix_len is_ordinary (drop at bytes) → new ≡ old ++ take k (drop at bytes)
+    → new ++ shown (drop end bytes) ≡ old ++ shown (drop at bytes)
+run_text old new bytes at end k is fits text =
+    (λ i. text i ++ shown (drop (is i) bytes)) ∙ ap (λ rest. (old ++ take k (drop at bytes)) ++ shown rest) (sym (drop-drop k at bytes))
+    ∙ append_assoc old (take k (drop at bytes)) (shown (drop k (drop at bytes))) ∙ ap (λ xs. old ++ xs) (sym (shown_run k (drop at bytes) fits))
+
+-- a byte that was appended as it is shown, with what stands behind it
+pub byte_text : (new newer bytes : List ℕ) (end : ℕ) → end < length bytes → newer ≡ new ++ shown_byte (get_or bytes end 0)
+    → newer ++ shown (drop (end + 1) bytes) ≡ new ++ shown (drop end bytes)
+byte_text new newer bytes end lt text =
+    let one : end + 1 ≡ suc end = omega arith in
+    (λ i. text i ++ shown (drop (one i) bytes)) ∙ append_assoc new (shown_byte (get_or bytes end 0)) (shown (drop (suc end) bytes))
+    ∙ ap (λ xs. new ++ shown xs) (sym (drop-cons bytes end 0 lt))

@@ -1,0 +1,7 @@
+use Rattle.std.proofs.Common.{◌≡◌, ◌++◌, take}
+use Rattle.std.specs.Prelude.{flat_map}
+use Rattle.report_text.specs.Lines.{error_line}
+use Rattle.report_text.proofs.rejects.push_stored.Given as goal
+
+abbrev pub invariant-loop-index : goal.invariant-loop-index
+invariant-loop-index l = l.into.items ≡ l.fn.into.items ++ flat_map error_line (take l.index l.book.stored)

@@ -1,0 +1,6 @@
+use Rattle.std.proofs.Common.{ltb, arith, w8}
+use Rattle.std.proofs.lemmas.Simd.{bitmask_splat}
+use Rattle.report_text.proofs.runs.below.Goals as goal
+
+pub returns : goal.returns
+returns c = bitmask_splat w8 ltb c.args.lanes 16 c.args.byte c.fits-lanes.0 (omega arith)

@@ -1,0 +1,116 @@
+-- The lines of a report, each by its parts (this loader's profile; the fields of scan and error lines are those of DuckDB's manual, "Reading Faulty CSV Files").
+use Rattle.std.specs.Prelude.{ℕ, ◌+◌, List, [], ◌∷◌, ◌++◌, length, map, codes, Some}
+use Rattle.std.specs.Fmt.{decimal}
+use Rattle.value_types.specs.declared.types.ColumnType.{ColumnType}
+use Rattle.value_types.specs.TypeName.{name_of_type}
+use Rattle.value_types.specs.Datum.{Datum, null, typed, text}
+use Rattle.value_types.specs.ValueText.{value_text, truth_text}
+use Rattle.csv_source.specs.Line.{line_of}
+use Rattle.load_options.specs.declared.words.WordFault.{WordFault}
+use Rattle.load_options.specs.declared.words.WordRule.{WordRule}
+use Rattle.load_options.specs.declared.words.WordRule.TheVariants.{NoCommand, BadCommand, NoFile, BadOption, BadValue, Repeated, Conflict}
+use Rattle.csv_sniffer.specs.declared.found.Newline.{Newline}
+use Rattle.csv_sniffer.specs.declared.found.Newline.TheVariants as newline
+use Rattle.csv_sniffer.specs.declared.found.Sniffed.{Sniffed}
+use Rattle.reject_book.specs.declared.reject.Reject.{Reject}
+use Rattle.reject_book.specs.Kind.{name_of_kind}
+use Rattle.report_text.specs.declared.outcome.Stats.{Stats}
+use Rattle.csv_source.specs.Shown.{shown, shown_option}
+
+abbrev pub newline_text : Newline → List ℕ
+newline_text newline.Lf = codes "\\n"
+newline_text newline.Cr = codes "\\r"
+newline_text newline.CrLf = codes "\\r\\n"
+newline_text newline.Mixed = codes "mixed"
+newline_text newline.None = codes "none"
+
+abbrev pub rule_name : WordRule → List ℕ
+rule_name NoCommand = codes "NoCommand"
+rule_name BadCommand = codes "BadCommand"
+rule_name NoFile = codes "NoFile"
+rule_name BadOption = codes "BadOption"
+rule_name BadValue = codes "BadValue"
+rule_name Repeated = codes "Repeated"
+rule_name Conflict = codes "Conflict"
+
+-- delimiter, quote, escape, line end, skipped lines and header of what was found
+abbrev pub options_line : Sniffed → List ℕ
+options_line s = line_of
+    (codes "options"
+    ∷ (codes "delim=" ++ shown_option (Some s.dialect.delim))
+    ∷ (codes "quote=" ++ shown_option s.dialect.quote)
+    ∷ (codes "escape=" ++ shown_option s.dialect.escape)
+    ∷ (codes "newline=" ++ newline_text s.newline)
+    ∷ (codes "skip=" ++ decimal s.skip)
+    ∷ (codes "header=" ++ truth_text s.header)
+    ∷ [])
+
+-- number, type and name of a column
+abbrev pub column_line : ℕ → ColumnType → List ℕ → List ℕ
+column_line number ty name = line_of (codes "column" ∷ decimal number ∷ name_of_type ty ∷ shown name ∷ [])
+
+-- one line for each column from a number on
+abbrev pub column_lines_from : ℕ → List ColumnType → List (List ℕ) → List ℕ
+column_lines_from number [] names = []
+column_lines_from number (ty ∷ tys) [] = []
+column_lines_from number (ty ∷ tys) (name ∷ names) = column_line number ty name ++ column_lines_from (number + 1) tys names
+
+abbrev pub column_lines : Sniffed → List ℕ
+column_lines s = column_lines_from 0 s.types s.names
+
+abbrev pub cell_text : Datum → List ℕ
+cell_text null = codes "\\N"
+cell_text (typed value) = value_text value
+cell_text (text bytes) = shown bytes
+
+abbrev pub row_line : List Datum → List ℕ
+row_line cells = line_of (codes "row" ∷ map cell_text cells)
+
+abbrev pub rows_line : ℕ → List ℕ
+rows_line count = line_of (codes "rows" ∷ decimal count ∷ [])
+
+abbrev pub scan_line : Sniffed → List ℕ → List ℕ
+scan_line s file = line_of
+    (codes "scan"
+    ∷ decimal 0
+    ∷ decimal 0
+    ∷ shown file
+    ∷ shown_option (Some s.dialect.delim)
+    ∷ shown_option s.dialect.quote
+    ∷ shown_option s.dialect.escape
+    ∷ newline_text s.newline
+    ∷ decimal s.skip
+    ∷ truth_text s.header
+    ∷ decimal (length s.types)
+    ∷ [])
+
+abbrev pub error_line : Reject → List ℕ
+error_line r = line_of
+    (codes "error"
+    ∷ decimal r.scan_id
+    ∷ decimal r.file_id
+    ∷ decimal r.line
+    ∷ decimal r.line_byte_position
+    ∷ decimal r.byte_position
+    ∷ decimal r.column_idx
+    ∷ shown r.column_name
+    ∷ name_of_kind r.error_type
+    ∷ shown r.csv_line
+    ∷ shown r.error_message
+    ∷ [])
+
+abbrev pub errors_line : ℕ → ℕ → List ℕ
+errors_line stored all = line_of (codes "errors" ∷ decimal stored ∷ decimal all ∷ [])
+
+abbrev pub stats_line : Stats → List ℕ
+stats_line s = line_of
+    (codes "stats" ∷ (codes "ranges=" ++ decimal s.ranges) ∷ (codes "rescans=" ++ decimal s.rescans) ∷ (codes "scanned=" ++ decimal s.scanned) ∷ [])
+
+abbrev pub refused_line : WordFault → List ℕ → List ℕ
+refused_line fault word = line_of (codes "refused" ∷ rule_name fault.rule ∷ decimal fault.index ∷ shown word ∷ [])
+
+abbrev pub read_fault_line : List ℕ
+read_fault_line = line_of (codes "fault" ∷ codes "read" ∷ [])
+
+abbrev pub too_large_line : ℕ → List ℕ
+too_large_line limit = line_of (codes "fault" ∷ (codes "input over " ++ decimal limit ++ codes " bytes") ∷ [])

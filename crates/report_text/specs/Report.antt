@@ -1,0 +1,37 @@
+-- The whole text of a report (this loader's profile).
+use Rattle.std.specs.Prelude.{ℕ, if◌then◌else◌, List, [], ◌++◌, length, flat_map}
+use Rattle.std.specs.Option.{option_map_or}
+use Rattle.csv_sniffer.specs.declared.found.Sniffed.{Sniffed}
+use Rattle.report_text.specs.declared.outcome.Loaded.{Loaded}
+use Rattle.report_text.specs.declared.outcome.Outcome.{Outcome}
+use Rattle.report_text.specs.declared.outcome.Outcome.TheVariants as outcome
+use Rattle.report_text.specs.Lines.{options_line, column_lines, row_line, rows_line, scan_line, error_line, errors_line, stats_line, refused_line, read_fault_line, too_large_line}
+
+-- what was found: the options and the columns
+abbrev pub found_lines : Sniffed → List ℕ
+found_lines s = options_line s ++ column_lines s
+
+-- the rejects, where they are stored: the scan, and the stored rejects
+abbrev pub reject_lines : Loaded → List ℕ
+reject_lines l = if l.store then scan_line l.sniffed l.file ++ flat_map error_line l.book.stored else []
+
+abbrev pub stored_count : Loaded → ℕ
+stored_count l = if l.store then length l.book.stored else 0
+
+-- the number of rows, the rejects and their numbers, some further lines, and the stats
+abbrev pub closing_lines : Loaded → List ℕ → List ℕ
+closing_lines l further =
+    rows_line (length l.table.rows) ++ reject_lines l ++ errors_line (stored_count l) l.book.all ++ further ++ option_map_or stats_line l.stats []
+
+-- what was found, some lines on the rows, and what stands behind them
+abbrev pub loaded_lines : Loaded → List ℕ → List ℕ → List ℕ
+loaded_lines l on_rows further = found_lines l.sniffed ++ on_rows ++ closing_lines l further
+
+abbrev pub report_of : Outcome → List ℕ
+report_of (outcome.Refused fault word) = refused_line fault word
+report_of outcome.ReadFault = read_fault_line
+report_of (outcome.TooLarge limit) = too_large_line limit
+report_of (outcome.Sniffed s) = found_lines s
+report_of (outcome.Loaded l) = loaded_lines l (flat_map row_line l.table.rows) []
+report_of (outcome.Summary l tap_lines) = loaded_lines l [] tap_lines
+report_of (outcome.FirstError s reject) = found_lines s ++ error_line reject

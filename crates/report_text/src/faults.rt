@@ -1,0 +1,57 @@
+// The lines of requests that weren't done.
+ghost use Rattle.std.specs.Prelude.{◌≡◌, ◌++◌, OnOk};
+ghost use Rattle.report_text.specs.Lines.{read_fault_line, refused_line, rule_name, too_large_line};
+
+use crate::lines::{Part, push_line, push_number, push_plain};
+use csv_source::NoMemory;
+use load_options::{WordFault, WordRule};
+
+/// The name of a rule.
+fn rule_name(rule: WordRule) -> &'static [u8]
+    ensures { result.now ≡ rule_name rule }
+{
+    match rule {
+        WordRule::NoCommand => b"NoCommand",
+        WordRule::BadCommand => b"BadCommand",
+        WordRule::NoFile => b"NoFile",
+        WordRule::BadOption => b"BadOption",
+        WordRule::BadValue => b"BadValue",
+        WordRule::Repeated => b"Repeated",
+        WordRule::Conflict => b"Conflict",
+    }
+}
+
+/// Appends the line of refused words.
+pub(crate) fn push_refused(
+    into: &mut Vec<u8>,
+    fault: &WordFault,
+    word: &[u8],
+) -> Result<(), NoMemory>
+    ensures { OnOk result (into.new.items ≡ into.old.items ++ refused_line fault.now word.now) }
+{
+    push_line(
+        into,
+        b"refused",
+        &[
+            Part::Plain(rule_name(fault.rule)),
+            Part::Number(fault.index as u64),
+            Part::Shown(word),
+        ],
+    )
+}
+
+/// Appends the line of a read fault.
+pub(crate) fn push_read_fault(into: &mut Vec<u8>) -> Result<(), NoMemory>
+    ensures { OnOk result (into.new.items ≡ into.old.items ++ read_fault_line) }
+{
+    push_plain(into, b"fault|read\n")
+}
+
+/// Appends the line of an input that is too large.
+pub(crate) fn push_too_large(into: &mut Vec<u8>, limit: u64) -> Result<(), NoMemory>
+    ensures { OnOk result (into.new.items ≡ into.old.items ++ too_large_line limit) }
+{
+    push_plain(into, b"fault|input over ")?;
+    push_number(into, limit)?;
+    push_plain(into, b" bytes\n")
+}

@@ -1,0 +1,22 @@
+//! The report of a request as text, line by line: what was found, the rows, the rejects and their numbers, and the stats.
+//! A line has parts with a bar between each two, and ends with LF; bytes that can't stand in it are spelled with a
+//! backslash. `render` appends all to one buffer, and walks a table chunk by chunk, so that a row takes no memory of its
+//! own and a cell needs no search. `make_text` makes a valid text of any length from a number, for tests and measurements.
+#![tactic(auto)]
+
+mod faults;
+mod found;
+mod lines;
+mod made;
+mod outcome;
+mod rejects;
+mod rows;
+mod runs;
+mod shown;
+#[cfg(test)]
+mod tests;
+mod text;
+
+pub use made::make_text;
+pub use outcome::{Loaded, Outcome, Stats};
+pub use text::render;

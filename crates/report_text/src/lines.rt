@@ -1,0 +1,111 @@
+// Lines of parts.
+ghost use Rattle.std.specs.Prelude.{◌≡◌, ◌++◌, ◌∷◌, [], codes, map, OnOk};
+ghost use Rattle.std.specs.Fmt.{decimal};
+ghost use Rattle.csv_source.specs.Line.{line_of};
+ghost use Rattle.report_text.specs.Part.{part_text};
+ghost use Rattle.report_text.specs.Lines.{errors_line, rows_line, stats_line};
+
+use crate::Stats;
+use crate::shown::{push_shown, push_shown_option};
+use csv_source::NoMemory;
+
+/// A part of a line.
+#[derive(Clone, Copy)]
+pub(crate) enum Part<'a> {
+    /// Bytes as they are.
+    Plain(&'a [u8]),
+    Shown(&'a [u8]),
+    Number(u64),
+    /// A byte as it is shown, where there is one.
+    Mark(Option<u8>),
+    /// A name before one of those.
+    NamedPlain(&'a [u8], &'a [u8]),
+    NamedNumber(&'a [u8], u64),
+    NamedMark(&'a [u8], Option<u8>),
+}
+
+/// Appends a number.
+pub(crate) fn push_number(into: &mut Vec<u8>, number: u64) -> Result<(), NoMemory>
+    ensures { OnOk result (into.new.items ≡ into.old.items ++ decimal number) }
+{
+    into.extend_from_slice(itoa::Buffer::new().format(number).as_bytes())?;
+    Ok(())
+}
+
+/// Appends bytes as they are.
+pub(crate) fn push_plain(into: &mut Vec<u8>, bytes: &[u8]) -> Result<(), NoMemory>
+    ensures { OnOk result (into.new.items ≡ into.old.items ++ bytes.now) }
+{
+    into.extend_from_slice(bytes)?;
+    Ok(())
+}
+
+/// Appends a part.
+fn push_part(into: &mut Vec<u8>, part: Part<'_>) -> Result<(), NoMemory>
+    ensures { OnOk result (into.new.items ≡ into.old.items ++ part_text part.entry) }
+{
+    match part {
+        Part::Plain(bytes) => push_plain(into, bytes),
+        Part::Shown(bytes) => push_shown(into, bytes),
+        Part::Number(number) => push_number(into, number),
+        Part::Mark(byte) => push_shown_option(into, byte),
+        Part::NamedPlain(name, bytes) => {
+            push_plain(into, name)?;
+            push_plain(into, bytes)
+        }
+        Part::NamedNumber(name, number) => {
+            push_plain(into, name)?;
+            push_number(into, number)
+        }
+        Part::NamedMark(name, byte) => {
+            push_plain(into, name)?;
+            push_shown_option(into, byte)
+        }
+    }
+}
+
+/// Appends a line: its name, the parts with a bar before each, and LF.
+pub(crate) fn push_line(into: &mut Vec<u8>, name: &[u8], parts: &[Part<'_>]) -> Result<(), NoMemory>
+    ensures { OnOk result (into.new.items ≡ into.old.items ++ line_of (name.now ∷ map part_text parts.now)) }
+{
+    into.extend_from_slice(name)?;
+    for part in parts {
+        into.push(b'|')?;
+        push_part(into, *part)?;
+    }
+    into.push(b'\n')?;
+    Ok(())
+}
+
+/// Appends the line of how many rows there are.
+pub(crate) fn push_row_count(into: &mut Vec<u8>, rows: usize) -> Result<(), NoMemory>
+    ensures { OnOk result (into.new.items ≡ into.old.items ++ rows_line rows) }
+{
+    push_line(into, b"rows", &[Part::Number(rows as u64)])
+}
+
+/// Appends the line of how many rejects are printed, and how many came.
+pub(crate) fn push_errors(into: &mut Vec<u8>, stored: usize, all: u64) -> Result<(), NoMemory>
+    ensures { OnOk result (into.new.items ≡ into.old.items ++ errors_line stored all) }
+{
+    push_line(
+        into,
+        b"errors",
+        &[Part::Number(stored as u64), Part::Number(all)],
+    )
+}
+
+/// Appends the line of the stats.
+pub(crate) fn push_stats(into: &mut Vec<u8>, stats: &Stats) -> Result<(), NoMemory>
+    ensures { OnOk result (into.new.items ≡ into.old.items ++ stats_line stats.now) }
+{
+    push_line(
+        into,
+        b"stats",
+        &[
+            Part::NamedNumber(b"ranges=", stats.ranges),
+            Part::NamedNumber(b"rescans=", stats.rescans),
+            Part::NamedNumber(b"scanned=", stats.scanned),
+        ],
+    )
+}

@@ -1,0 +1,82 @@
+// Runs of bytes that stand for themselves where they are shown.
+ghost use Rattle.std.specs.Prelude.{◌≡◌, ◌+◌, ◌≤◌, ◌==◌, drop, length, map, nat_lt, not};
+ghost use Rattle.std.specs.List.{prefix_len};
+ghost use lib.Lanes.{chunk, mask_l};
+ghost use Rattle.report_text.specs.Ordinary.{is_ordinary, is_spelled};
+
+use std::simd::prelude::*;
+
+/// The 16 bytes from `at` on.
+#[inline(always)]
+fn lanes_at(bytes: &[u8], at: usize) -> u8x16
+    requires within { at + 16 ≤ length bytes.now }
+    ensures value { result ≡ chunk at 16 bytes.now }
+    ensures count { length result ≡ 16 }
+{
+    u8x16::from_slice(&bytes[at..at + 16])
+}
+
+/// Which of the lanes equal a byte, a bit for each.
+#[inline(always)]
+fn equal_to(lanes: u8x16, byte: u8) -> u64
+    ensures { result ≡ mask_l (map (λ x. x == byte) lanes) }
+{
+    lanes.simd_eq(u8x16::splat(byte)).to_bitmask()
+}
+
+/// Which of the lanes are below a byte, a bit for each.
+#[inline(always)]
+fn below(lanes: u8x16, byte: u8) -> u64
+    ensures { result ≡ mask_l (map (λ x. nat_lt x byte) lanes) }
+{
+    lanes.simd_lt(u8x16::splat(byte)).to_bitmask()
+}
+
+/// How many of the 16 bytes from `at` on stand before the first that is spelled; 16 where none is.
+#[inline(always)]
+fn lanes_run(bytes: &[u8], at: usize) -> usize
+    requires within { at + 16 ≤ length bytes.now }
+    ensures { result ≡ prefix_len is_ordinary (chunk at 16 bytes.now) }
+{
+    let lanes = lanes_at(bytes, at);
+    let found = equal_to(lanes, b'\\')
+        | equal_to(lanes, b'|')
+        | equal_to(lanes, 127)
+        | below(lanes, 32);
+    if found == 0 {
+        16
+    } else {
+        found.trailing_zeros() as usize
+    }
+}
+
+/// Whether a byte is spelled in another way.
+#[inline(always)]
+fn is_spelled(byte: u8) -> bool
+    ensures { result ≡ is_spelled byte }
+{
+    byte == b'\\' || byte == b'|' || byte == 127 || byte < 32
+}
+
+/// The end of the run of ordinary bytes from `from` on: 16 bytes at a time, then one at a time.
+pub(crate) fn run_end(bytes: &[u8], from: usize) -> usize
+    requires within { from ≤ length bytes.now }
+    ensures value { result ≡ from + prefix_len is_ordinary (drop from bytes.now) }
+    ensures within { result ≤ length bytes.now }
+{
+    let mut at = from;
+    while bytes.len() - at >= 16 {
+        let run = lanes_run(bytes, at);
+        if run < 16 {
+            return at + run;
+        }
+        at += 16;
+    }
+    while at < bytes.len() {
+        if is_spelled(bytes[at]) {
+            return at;
+        }
+        at += 1;
+    }
+    at
+}

@@ -1,0 +1,82 @@
+// Bytes as they are shown in a report.
+ghost use Rattle.std.specs.Prelude.{◌≡◌, ◌<◌, ◌≤◌, ◌++◌, drop, false, length, IfOk, OnOk};
+ghost use Rattle.std.specs.Fmt.{digit_glyph};
+ghost use Rattle.csv_source.specs.Shown.{shown_byte, shown, shown_option, hex_digits};
+ghost use Rattle.report_text.specs.Moves.{HasShown};
+
+use crate::runs::run_end;
+use csv_source::NoMemory;
+
+/// The byte of a hexadecimal digit.
+fn hex_digit(value: u8) -> u8
+    requires { value < 16 }
+    ensures { result ≡ digit_glyph false value }
+{
+    if value < 10 {
+        b'0' + value
+    } else {
+        b'a' + (value - 10)
+    }
+}
+
+/// Appends the two hexadecimal digits of a byte.
+fn push_hex(into: &mut Vec<u8>, byte: u8) -> Result<(), NoMemory>
+    ensures { OnOk result (into.new.items ≡ into.old.items ++ hex_digits byte) }
+{
+    into.extend_from_slice(&[hex_digit(byte / 16), hex_digit(byte % 16)])?;
+    Ok(())
+}
+
+/// Appends a byte as it is shown.
+pub(crate) fn push_shown_byte(into: &mut Vec<u8>, byte: u8) -> Result<(), NoMemory>
+    ensures { OnOk result (into.new.items ≡ into.old.items ++ shown_byte byte) }
+{
+    match byte {
+        b'\\' => into.extend_from_slice(b"\\\\")?,
+        b'|' => into.extend_from_slice(b"\\|")?,
+        b'\n' => into.extend_from_slice(b"\\n")?,
+        b'\r' => into.extend_from_slice(b"\\r")?,
+        b'\t' => into.extend_from_slice(b"\\t")?,
+        0..=31 | 127 => {
+            into.extend_from_slice(b"\\x")?;
+            push_hex(into, byte)?;
+        }
+        _ => into.push(byte)?,
+    }
+    Ok(())
+}
+
+/// Appends the bytes from `at` on up to the first that is spelled, and that one; answers the place behind it.
+fn push_stretch(into: &mut Vec<u8>, bytes: &[u8], at: usize) -> Result<usize, NoMemory>
+    requires within { at < length bytes.now }
+    ensures ok { IfOk result (λ next. HasShown into.old.items into.new.items bytes.now at next) }
+{
+    let end = run_end(bytes, at);
+    into.extend_from_slice(&bytes[at..end])?;
+    if end == bytes.len() {
+        return Ok(end);
+    }
+    push_shown_byte(into, bytes[end])?;
+    Ok(end + 1)
+}
+
+/// Appends bytes as they are shown, runs of ordinary bytes whole.
+pub(crate) fn push_shown(into: &mut Vec<u8>, bytes: &[u8]) -> Result<(), NoMemory>
+    ensures { OnOk result (into.new.items ≡ into.old.items ++ shown bytes.now) }
+{
+    let mut at = 0;
+    while at < bytes.len() {
+        at = push_stretch(into, bytes, at)?;
+    }
+    Ok(())
+}
+
+/// Appends an optional byte as it is shown, nothing where there is none.
+pub(crate) fn push_shown_option(into: &mut Vec<u8>, byte: Option<u8>) -> Result<(), NoMemory>
+    ensures { OnOk result (into.new.items ≡ into.old.items ++ shown_option byte) }
+{
+    match byte {
+        Some(byte) => push_shown_byte(into, byte),
+        None => Ok(()),
+    }
+}
