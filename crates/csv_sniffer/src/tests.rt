@@ -74,6 +74,13 @@ fn inputs_show_what_the_rules_find(rt: HostRuntime) -> Result<(), Fail> {
         ),
         (
             "load f.csv",
+            "a,a,a,a_1\n0,1,2,3\n",
+            Newline::Lf,
+            "a:BIGINT a_1:BIGINT a_2:BIGINT a_1_1:BIGINT ",
+            10,
+        ),
+        (
+            "load f.csv",
             "name,city\nAnn,Oslo\n",
             Newline::Lf,
             "name:VARCHAR city:VARCHAR ",

@@ -4,7 +4,6 @@ ghost use Rattle.byte_classes.specs.LineEnds.{line_ends};
 ghost use Rattle.quote_automaton.specs.RowEnd.{row_len};
 ghost use Rattle.row_fields.specs.Split.{row_from, IsSplit};
 ghost use Rattle.row_fields.specs.Verdict.{Faulty};
-ghost use Rattle.reject_book.specs.Judged.{IsJudged};
 ghost use Rattle.reject_book.specs.Kept.{added, book_of};
 ghost use Rattle.reject_book.specs.declared.reject.Reject.{Reject};
 ghost use Rattle.range_scan.specs.Scanned.{HasColumns};
@@ -12,15 +11,15 @@ ghost use Rattle.range_scan.specs.Steps.{booked, lines_before, verdict_on, CanTa
 
 use crate::context::Context;
 use crate::places::byte_before;
+use crate::pushing::push_row;
 use byte_classes::count_line_ends;
 use column_store::Chunk;
 use csv_source::NoMemory;
-use reject_book::{Book, Judged, RowPlace, judge_fields, rejects_of};
+use reject_book::{Book, RowPlace, rejects_of};
 use row_fields::Fields;
 use std::alloc::Global;
-use value_types::Cells;
 
-/// The good rows and the rejects so far, and the buffers for the next row. Line ends are counted up to a place only once a
+/// The good rows and the rejects so far, and the buffers for the fields of the next row. Line ends are counted up to a place only once a
 /// reject needs its line.
 #[derive(Drop)]
 pub struct Gathering {
@@ -28,7 +27,6 @@ pub struct Gathering {
     pub chunk: Chunk,
     pub book: Book,
     fields: Fields,
-    cells: Cells,
     pub lines: u64,
     pub counted_to: usize,
 }
@@ -45,7 +43,6 @@ impl Gathering {
             chunk: Chunk::new(alloc, &context.schema.types)?,
             book: Book::new(alloc, context.keep),
             fields: Fields::new(alloc),
-            cells: Cells::new(alloc),
             lines: 0,
             counted_to: from,
         })
@@ -120,38 +117,7 @@ impl Gathering {
         Ok(())
     }
 
-    /// Gathers the row that was read from a place and judged.
-    fn settle(
-        &mut self,
-        context: &Context,
-        bytes: &[u8],
-        base: u64,
-        at: usize,
-        end: usize,
-        judged: Judged,
-    ) -> Result<(), NoMemory>
-        requires ready { CanTake context.now bytes.now base at self.old }
-        requires row { end ≡ at + row_len context.now.dialect bytes.now at }
-        requires within { end ≤ length bytes.now }
-        requires split { IsSplit context.now.dialect (row_from context.now.dialect bytes.now at) self.old.fields }
-        requires judged { IsJudged judged self.old.cells (verdict_on context.now bytes.now base (lines_before self.old bytes.now at) at) }
-        ensures ok { OnOk result (Gathers (verdict_on context.now bytes.now base (lines_before self.old bytes.now at) at) bytes.now at self.old self.new) }
-        ensures room { OnOk result (self.new.book.all ≤ end + 1) }
-    {
-        match judged {
-            Judged::Blank => Ok(()),
-            Judged::Good => {
-                self.chunk.push_row(&self.cells)?;
-                Ok(())
-            }
-            Judged::Faulty(count) => {
-                self.book_faults(context, bytes, base, at, end, count)?;
-                Ok(())
-            }
-        }
-    }
-
-    /// Reads and judges the row that begins at a place, and answers its end. Bytes up to `text_to` are known to be UTF-8.
+    /// Reads the row that begins at a place, keeps it or its faults, and answers its end. Bytes up to `text_to` are known to be UTF-8.
     pub fn take_row(
         &mut self,
         context: &Context,
@@ -168,14 +134,17 @@ impl Gathering {
         ensures within { IfOk result (λ end. (end ≤ length bytes.now) × (self.new.book.all ≤ end + 1)) }
     {
         let end = self.fields.read_row(&context.dialect, bytes, at)?;
-        let judged = judge_fields(
+        let faults = push_row(
+            &mut self.chunk,
             &context.schema,
             &bytes[at..end],
             &self.fields,
             end <= text_to,
-            &mut self.cells,
         )?;
-        self.settle(context, bytes, base, at, end, judged)?;
+        if faults == 0 {
+            return Ok(end);
+        }
+        self.book_faults(context, bytes, base, at, end, faults)?;
         Ok(end)
     }
 }
