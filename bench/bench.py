@@ -2,7 +2,6 @@
 """Compare CSV loaders on one machine: wall time, CPU time, peak memory.
 
     bench.py [--csvload PATH] [--shape made] [--mb 40] [--reps 5] [--only WORD,..] [--threads 4]
-    bench.py --csvload PATH --plain --mb 4                               the words of csvload that are built today
     bench.py --scaling [--sizes 4,40,400] [--scale-threads 1,2,4]      tools that have threads alone
 
 Words cut at commas are lists: shapes, sizes in MB, threads, parts of tools' names.
@@ -38,7 +37,6 @@ import make_data
 
 HERE = os.path.dirname(os.path.abspath(__file__))
 PG = max(glob.glob("/usr/lib/postgresql/*/bin/"), default="")
-PLAIN = ["delim=,", 'quote="', 'escape="', "header=false", "all_varchar=true"]
 SCHEMAS = {
     "made": "id:int ok:bool day:date note:text",
     "bad": "id:int ok:bool day:date note:text",
@@ -157,10 +155,8 @@ def tools(file, start, shape, threads, args):
         if shutil.which(argv[0]) and args.wanted(name):
             made.append(Tool(name, kind, threads, argv, stdin, most_mb, count))
 
-    if args.csvload and args.plain:     # all rows as text, the header too; at most 4,194,304 bytes
-        add("csvload load, as text", "ours-print", [args.csvload, "load", file] + PLAIN, None, most_mb=4)
     for n in threads:
-        if args.csvload and not args.plain:
+        if args.csvload:
             words = ["threads=%d" % n] + ["types=BIGINT,BOOLEAN,DATE,VARCHAR", "store_rejects=true"] * faulty
             add("csvload summary", "ours", [args.csvload, "summary", file] + words, r"(?m)^rows\|(\d+)$", n)
             add("csvload load", "ours-print", [args.csvload, "load", file] + words, None, n)
@@ -276,7 +272,6 @@ def scaling(args):
 def main():
     p = argparse.ArgumentParser(description=__doc__, formatter_class=argparse.RawDescriptionHelpFormatter)
     p.add_argument("--csvload", help="our program")
-    p.add_argument("--plain", action="store_true", help="csvload loads rows as text, on inputs of at most 4 MB")
     p.add_argument("--reps", type=int, default=5)
     p.add_argument("--only", help="tools whose name has one of these words")
     p.add_argument("--scaling", action="store_true")
