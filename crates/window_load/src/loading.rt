@@ -1,0 +1,78 @@
+//! The load of an input's data in windows.
+ghost use Rattle.std.specs.Prelude.{◌≡◌, ◌<◌, ◌≤◌, ◌^◌, true, length, drop, IfOk, Err};
+ghost use Rattle.std.specs.Io.KnownBytes.{IsAtEnd};
+ghost use Rattle.csv_source.specs.Causes.{Rose};
+ghost use Rattle.reject_book.specs.declared.book.Keep.TheVariants.{First as first_of};
+ghost use Rattle.range_scan.specs.Scanned.{HasColumns};
+ghost use Rattle.window_load.specs.DataRead.{IsWindowRead, Comes, ComesWhole, ComesOver};
+ghost use Rattle.window_load.specs.declared.stop.LoadStop.TheVariants as stops;
+
+use crate::course::Course;
+use crate::data_read::{WindowRead, window_read};
+use crate::groups::read_groups;
+use crate::stop::LoadStop;
+use crate::window::InputWindow;
+use csv_source::{Gate, Source};
+use range_scan::Context;
+use std::alloc::Global;
+use std::thread::Threads;
+
+/// Loads the data of an input, of which the head was read. They begin at a place of the head, and go on with what is left
+/// of the source. One group of ranges is held at a time, with what its last rows reach over, and read by at most `threads`
+/// workers. With `stop` the load ends with the first reject; the rest is then read and dropped.
+pub fn window_load<R: Threads + Sync, S: Source, G: Gate>(
+    rt: &R,
+    alloc: Global,
+    context: &Context,
+    head: InputWindow,
+    data_start: usize,
+    source: &mut S,
+    range_size: u64,
+    stop: bool,
+    threads: u32,
+    gate: &G,
+) -> Result<WindowRead, LoadStop>
+    requires begins { head.base ≡ 0 }
+    requires place { data_start ≤ length head.kept }
+    requires room { head.most ≤ 2 ^ 32 }
+    requires at_end { head.ended ≡ true → IsAtEnd (S.left source.old) }
+    requires some { 0 < range_size }
+    requires within { range_size ≤ 67_108_864 }
+    requires line { context.now.schema.max_line_size ≤ 4_194_304 }
+    requires fits { HasColumns context.now.schema }
+    requires threads { (1 ≤ threads) × (threads ≤ 64) }
+    requires keep { stop ≡ true → context.now.keep ≡ first_of 1 }
+
+    // All of the data were read, and nothing is left.
+    ensures ok { IfOk result (λ read. ComesWhole (S.left source.old) (S.left source.new) head
+        (λ input. IsWindowRead context.now (drop data_start input) data_start range_size stop read)) }
+    // The input is over its limit, and one byte over it was read.
+    ensures too_large { result ≡ Err stops.TooLarge → ComesOver (S.left source.old) (S.left source.new) head }
+    ensures failed { result ≡ Err stops.Failed → Rose (S.faults source.old) (S.faults source.new) }
+    // Whatever the answer, a front of what was left came.
+    ensures moved { Comes (S.left source.old) (S.left source.new) }
+    ensures held { S.held source.new ≡ S.held source.old }
+    ensures count { S.faults source.old ≤ S.faults source.new }
+{
+    let mut window = head;
+    window.drop_front(data_start);
+    let course = Course {
+        start: data_start as u64,
+        lines: 0,
+        range_size,
+        stop,
+    };
+    let read = read_groups(
+        rt,
+        alloc,
+        context,
+        course,
+        threads,
+        &mut window,
+        source,
+        gate,
+    )?;
+    window.read_past(source)?;
+    let length = window.reach() - course.start;
+    Ok(window_read(read, length, range_size))
+}
