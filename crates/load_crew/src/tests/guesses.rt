@@ -47,7 +47,7 @@ fn with_cell(digest: u64, cell: Cell<'_>) -> u64 {
         Cell::Text(text) => text
             .iter()
             .fold(digest, |sum, byte| with_number(sum, u64::from(*byte))),
-        Cell::Value(Value::Int(number)) => with_number(digest, number as u64),
+        Cell::Value(Value::Int(number)) => with_number(digest, number.unsigned_abs()),
         _ => with_number(digest, 256),
     }
 }
