@@ -164,3 +164,24 @@ pub record Ends (count : ℕ) (v : DrawerView) (n : ℕ) : Type 0 where
 pub ends : (count id : ℕ) (v : DrawerView) (ws : List ℕ) (xs : List (Unit {0})) → Final (Seen (IsKept count) id v) ws xs → Ends count v (get_or ws 0 0)
 ends count id v ws xs (s, seen, is, _, _) = let f = seen.0.1.each id v seen.1 in
     subst (λ (l : List ℕ). Ends count v (get_or l 0 0)) is record { drawn = f.drawn; done = f.done }
+
+-- the view of a drawer that is the only one
+sole : (views : List DrawerView) (id : ℕ) (v : DrawerView) → get_elem? views id ≡ some v → length views ≤ 1 → views ≡ v ∷ []
+sole [] id v at few = absurd (some-ne-none v (sym at))
+sole (x ∷ []) zero v at few = ap (λ u. u ∷ []) (some-injective x v at)
+sole (x ∷ []) (suc id) v at few = absurd (some-ne-none v (sym at))
+sole (x ∷ y ∷ views) id v at few = absurd (omega arith)
+
+pub alone : (count id : ℕ) (v : DrawerView) (ws : List ℕ) (xs : List (Unit {0})) → Final (Seen (IsKept count) id v) ws xs → v.splits ≡ 63 → (x : ℕ)
+    → times x v.drawn ≡ once_below x (min (get_or ws 0 0) count)
+alone count id v ws xs (s, seen, is, _, _) whole x =
+    let k = seen.0.1 in
+    let few : length s.views ≤ 1 = let budget = k.budget in let share = total_set (λ u. u.splits) s.views id v over seen.1 in omega (arith, whole) in
+    let total : sum_by (λ u. times x u.drawn) (v ∷ []) ≡ once_below x (min (get_or s.words 0 0) count) =
+    subst (λ (l : List DrawerView). sum_by (λ u. times x u.drawn) l ≡ once_below x (min (get_or s.words 0 0) count)) (sole s.views id v seen.1 few) (k.once x) in
+    let same : times x v.drawn ≡ once_below x (min (get_or s.words 0 0) count) = let sum = sum_by-cons (λ u. times x u.drawn) v [] in omega (arith, sum, total) in
+    subst (λ (l : List ℕ). times x v.drawn ≡ once_below x (min (get_or l 0 0) count)) is same
+
+pub got : (ws : List ℕ) (n : ℕ) → get_elem? ws 0 ≡ some n → get_or ws 0 0 ≡ n
+got [] n at = absurd (some-ne-none n (sym at))
+got (w ∷ ws) n at = some-injective w n at

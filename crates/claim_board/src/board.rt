@@ -1,7 +1,8 @@
 //! The board, and the calls on it.
-ghost use Rattle.std.specs.Prelude.{◌≡◌, ◌+◌, ◌-◌, ◌<◌, ◌≤◌, true, ◌++◌, IfOk};
+ghost use Rattle.std.specs.Prelude.{◌≡◌, ℕ, ◌+◌, ◌-◌, ◌<◌, ◌≤◌, true, ◌++◌, IfOk};
 ghost use Rattle.std.specs.List.{All};
 ghost use Rattle.claim_board.specs.Answers.{Answers};
+ghost use Rattle.claim_board.specs.Rule.{times, once_below};
 ghost use Rattle.claim_board.specs.Seen.{new_drawer};
 
 use crate::claim::Claim;
@@ -88,6 +89,8 @@ impl Board {
         ensures most { result ≤ self.count }
         ensures drawn { All (λ x. x < result) drawer.drawn }
         ensures done { drawer.done ≡ true → result ≡ self.count }
+        // Where no other drawer was ever made, this one drew each number below, once, and no other.
+        ensures alone { drawer.splits ≡ 63 → (x : ℕ) → times x drawer.drawn ≡ once_below x result }
     {
         let Board { table, count } = self;
         let Drawer { seat, done: _ } = drawer;

@@ -1,0 +1,87 @@
+//! A text most of whose ranges are guessed wrong, read by many workers, many times.
+
+use super::reader::{Manner, Tally, context_of, read_by, tally_of};
+use crate::GroupRead;
+use csv_source::{NoMemory, OpenGate};
+use quote_automaton::State;
+use std::alloc::Global;
+use std::test::Fail;
+use value_types::{Cell, ColumnType, Value};
+
+/// Rows of eight lines each, of 4 bytes, of which all but the first open inside quotes and are guessed to open at a row's start.
+/// The first field of the last row but one is no number.
+fn rows_over_lines(alloc: Global) -> Result<Vec<u8>, NoMemory> {
+    let mut text = Vec::new(alloc);
+    for row in 0..8u8 {
+        let number = if row == 6 { b'n' } else { b'0' + row };
+        text.extend_from_slice(&[number, b',', b'"', b'\n'])?;
+        for line in 0..6u8 {
+            text.extend_from_slice(&[b'a' + row, b',', b'a' + line, b'\n'])?;
+        }
+        text.extend_from_slice(b"z,\"\n")?;
+    }
+    Ok(text)
+}
+
+/// One number of all cells and all rejects, in order.
+fn digest_of(read: &GroupRead) -> u64 {
+    let mut digest = 0u64;
+    for row in 0..read.table.rows() {
+        for column in 0..read.table.columns() {
+            digest = with_cell(digest, read.table.cell_at(column, row));
+        }
+    }
+    for place in 0..read.book.len() {
+        let reject = read.book.get(place);
+        digest = with_number(with_number(digest, reject.line), reject.byte_position);
+    }
+    digest
+}
+
+fn with_number(digest: u64, number: u64) -> u64 {
+    digest.wrapping_mul(1_000_003).wrapping_add(number)
+}
+
+fn with_cell(digest: u64, cell: Cell<'_>) -> u64 {
+    match cell {
+        Cell::Text(text) => text
+            .iter()
+            .fold(digest, |sum, byte| with_number(sum, u64::from(*byte))),
+        Cell::Value(Value::Int(number)) => with_number(digest, number.unsigned_abs()),
+        _ => with_number(digest, 256),
+    }
+}
+
+fn by(threads: u32) -> Manner {
+    Manner {
+        range_size: 4,
+        first: State::RowStart,
+        stop: false,
+        threads,
+    }
+}
+
+#[test]
+fn many_workers_read_what_one_reads(rt: HostRuntime) -> Result<(), Fail> {
+    let context = context_of(&rt, rt.alloc(), ColumnType::Bigint)?;
+    let text = rows_over_lines(rt.alloc())?;
+    let alone = read_by(&rt, rt.alloc(), &context, &text, by(1), &OpenGate)?;
+    let tally = Tally {
+        end: State::RowStart,
+        stopped: false,
+        rows: 7,
+        rejects: 1,
+        line: 49,
+        line_ends: 64,
+        rescans: 56,
+        rescanned: 224,
+    };
+    assert_eq!(rt; tally_of(&alone), tally);
+    let digest = digest_of(&alone);
+    for run in 0..200u32 {
+        let read = read_by(&rt, rt.alloc(), &context, &text, by(8), &OpenGate)?;
+        assert_eq!(rt; tally_of(&read), tally, "in run {run}");
+        assert_eq!(rt; digest_of(&read), digest, "in run {run}");
+    }
+    Ok(())
+}
