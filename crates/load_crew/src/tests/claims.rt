@@ -1,6 +1,6 @@
 //! Who claims which range, and how often each is scanned.
 
-use super::reader::{Manner, context_of, read_by, tally_of};
+use super::reader::{Manner, tally_by};
 use csv_source::Gate;
 use quote_automaton::State;
 use std::sync::atomic::{AtomicU64, Ordering};
@@ -47,13 +47,9 @@ impl Gate for Counting {
     }
 }
 
-#[test]
-fn each_range_is_claimed_once_and_scanned_again_where_it_differs(
-    rt: HostRuntime,
-) -> Result<(), Fail> {
-    let context = context_of(&rt, rt.alloc(), ColumnType::Varchar)?;
-    for threads in [1u32, 2, 4] {
-        let gate = Counting {
+impl Counting {
+    fn new() -> Counting {
+        Counting {
             ranges: [
                 Seen::new(),
                 Seen::new(),
@@ -61,31 +57,41 @@ fn each_range_is_claimed_once_and_scanned_again_where_it_differs(
                 Seen::new(),
                 Seen::new(),
             ],
-        };
+        }
+    }
+
+    /// Of each range, how often it was claimed and how it was scanned.
+    fn seen(&self) -> [(u64, u64); 5] {
+        let mut seen = [(0u64, 0u64); 5];
+        for range in 0..5usize {
+            let Seen { claims, scans } = &self.ranges[range];
+            seen[range] = (claims.load(Ordering::SeqCst), scans.load(Ordering::SeqCst));
+        }
+        seen
+    }
+}
+
+#[test]
+fn each_range_is_claimed_once_and_scanned_again_where_it_differs(
+    rt: HostRuntime,
+) -> Result<(), Fail> {
+    for threads in [1u32, 2, 4] {
+        let gate = Counting::new();
         let manner = Manner {
             range_size: 2,
             first: State::RowStart,
             stop: false,
             threads,
         };
-        let read = read_by(&rt, rt.alloc(), &context, b"x,5\"y\n1,2\n", manner, &gate)?;
-        let tally = tally_of(&read);
+        let text = b"x,5\"y\n1,2\n";
+        let tally = tally_by(&rt, rt.alloc(), ColumnType::Varchar, text, manner, &gate)?;
+        assert_eq!(rt; (tally.rows, tally.rejects), (2, 0));
+        assert_eq!(rt; (tally.rescans, tally.rescanned), (2, 4));
+        // Each is scanned in its guess, range 1 once more in FieldStart and range 2 in Plain.
         assert_eq!(rt;
-            [
-                tally.rows as u64,
-                tally.rejects,
-                tally.rescans,
-                tally.rescanned
-            ],
-            [2, 0, 2, 4]
+            gate.seen(),
+            [(1, 0x1), (1, 0x42), (1, 0x63), (1, 0x1), (1, 0x2)]
         );
-        let mut scans = [0u64; 5];
-        for range in 0..5usize {
-            assert_eq!(rt; gate.ranges[range].claims.load(Ordering::SeqCst), 1);
-            scans[range] = gate.ranges[range].scans.load(Ordering::SeqCst);
-        }
-        // Each in its guess, range 1 once more in FieldStart and range 2 in Plain.
-        assert_eq!(rt; scans, [0x1, 0x42, 0x63, 0x1, 0x2]);
     }
     Ok(())
 }
@@ -120,7 +126,6 @@ impl Gate for Holding {
 
 #[test]
 fn another_worker_claims_while_the_first_range_is_scanned(rt: HostRuntime) -> Result<(), Fail> {
-    let context = context_of(&rt, rt.alloc(), ColumnType::Bigint)?;
     let gate = Holding {
         claimer: AtomicU64::new(0),
         in_time: AtomicU64::new(0),
@@ -131,8 +136,9 @@ fn another_worker_claims_while_the_first_range_is_scanned(rt: HostRuntime) -> Re
         stop: false,
         threads: 2,
     };
-    let read = read_by(&rt, rt.alloc(), &context, b"1,2\n3,4\n", manner, &gate)?;
-    assert_eq!(rt; read.table.rows(), 2);
+    let text = b"1,2\n3,4\n";
+    let tally = tally_by(&rt, rt.alloc(), ColumnType::Bigint, text, manner, &gate)?;
+    assert_eq!(rt; tally.rows, 2);
     assert_eq!(rt; gate.in_time.load(Ordering::SeqCst), 1);
     Ok(())
 }

@@ -5,7 +5,9 @@ use crate::GroupRead;
 use csv_source::{NoMemory, OpenGate};
 use quote_automaton::State;
 use std::alloc::Global;
+use std::process::Abort;
 use std::test::Fail;
+use std::thread::Threads;
 use value_types::{Cell, ColumnType, Value};
 
 /// Rows of eight lines each, of 4 bytes, of which all but the first open inside quotes and are guessed to open at a row's start.
@@ -52,36 +54,44 @@ fn with_cell(digest: u64, cell: Cell<'_>) -> u64 {
     }
 }
 
-fn by(threads: u32) -> Manner {
-    Manner {
+/// What so many workers at most read of a text, in numbers, and the digest of it.
+fn read_with<R: Threads + Sync + Abort>(
+    rt: &R,
+    alloc: Global,
+    text: &[u8],
+    threads: u32,
+) -> Result<(Tally, u64), NoMemory> {
+    let manner = Manner {
         range_size: 4,
         first: State::RowStart,
         stop: false,
         threads,
-    }
+    };
+    let context = context_of(rt, alloc, ColumnType::Bigint)?;
+    let read = read_by(rt, alloc, &context, text, manner, &OpenGate)?;
+    Ok((tally_of(&read), digest_of(&read)))
 }
+
+/// What is read of `rows_over_lines`.
+const TALLY: Tally = Tally {
+    end: State::RowStart,
+    stopped: false,
+    rows: 7,
+    rejects: 1,
+    line: 49,
+    line_ends: 64,
+    rescans: 56,
+    rescanned: 224,
+};
 
 #[test]
 fn many_workers_read_what_one_reads(rt: HostRuntime) -> Result<(), Fail> {
-    let context = context_of(&rt, rt.alloc(), ColumnType::Bigint)?;
     let text = rows_over_lines(rt.alloc())?;
-    let alone = read_by(&rt, rt.alloc(), &context, &text, by(1), &OpenGate)?;
-    let tally = Tally {
-        end: State::RowStart,
-        stopped: false,
-        rows: 7,
-        rejects: 1,
-        line: 49,
-        line_ends: 64,
-        rescans: 56,
-        rescanned: 224,
-    };
-    assert_eq!(rt; tally_of(&alone), tally);
-    let digest = digest_of(&alone);
+    let (tally, digest) = read_with(&rt, rt.alloc(), &text, 1)?;
+    assert_eq!(rt; tally, TALLY);
     for run in 0..200u32 {
-        let read = read_by(&rt, rt.alloc(), &context, &text, by(8), &OpenGate)?;
-        assert_eq!(rt; tally_of(&read), tally, "in run {run}");
-        assert_eq!(rt; digest_of(&read), digest, "in run {run}");
+        let read = read_with(&rt, rt.alloc(), &text, 8)?;
+        assert_eq!(rt; read, (TALLY, digest), "in run {run}");
     }
     Ok(())
 }

@@ -151,3 +151,17 @@ pub fn tally_of(read: &GroupRead) -> Tally {
         rescanned: read.rescanned,
     }
 }
+
+/// What a crew reads of a text whose first column has a type, in numbers.
+pub fn tally_by<R: Threads + Sync + Abort, G: Gate>(
+    rt: &R,
+    alloc: Global,
+    first: ColumnType,
+    text: &[u8],
+    manner: Manner,
+    gate: &G,
+) -> Result<Tally, NoMemory> {
+    let context = context_of(rt, alloc, first)?;
+    let read = read_by(rt, alloc, &context, text, manner, gate)?;
+    Ok(tally_of(&read))
+}

@@ -1,6 +1,6 @@
 //! Each range is joined in its true state, whatever its guess.
 
-use super::reader::{Manner, Tally, context_of, read_by, tally_of};
+use super::reader::{Manner, Tally, tally_by};
 use csv_source::OpenGate;
 use quote_automaton::State;
 use std::test::Fail;
@@ -90,7 +90,6 @@ const BAD_ROWS: Case = Case {
 
 #[test]
 fn ranges_are_read_in_their_true_states(rt: HostRuntime) -> Result<(), Fail> {
-    let context = context_of(&rt, rt.alloc(), ColumnType::Bigint)?;
     for case in [OVER_LINES, OPENED_IN_QUOTES, NOT_CLOSED, BAD_ROWS] {
         for threads in [1u32, 2, 64] {
             let manner = Manner {
@@ -99,8 +98,9 @@ fn ranges_are_read_in_their_true_states(rt: HostRuntime) -> Result<(), Fail> {
                 stop: case.stop,
                 threads,
             };
-            let read = read_by(&rt, rt.alloc(), &context, case.text, manner, &OpenGate)?;
-            assert_eq!(rt; tally_of(&read), case.tally);
+            let bigint = ColumnType::Bigint;
+            let tally = tally_by(&rt, rt.alloc(), bigint, case.text, manner, &OpenGate)?;
+            assert_eq!(rt; tally, case.tally);
         }
     }
     Ok(())

@@ -1,6 +1,6 @@
 //! A reading that stops at the first bad range.
 
-use super::reader::{Manner, Tally, context_of, read_by, tally_of};
+use super::reader::{Manner, Tally, tally_by};
 use csv_source::OpenGate;
 use quote_automaton::State;
 use std::test::Fail;
@@ -11,7 +11,6 @@ const TEXT: &[u8] = b"1,a\n2,\"\nb,\"\n3,c\nx,4\n5,e\ny,6\n7,g\n";
 
 #[test]
 fn the_reading_ends_behind_the_first_bad_range(rt: HostRuntime) -> Result<(), Fail> {
-    let context = context_of(&rt, rt.alloc(), ColumnType::Bigint)?;
     for threads in [1u32, 2, 4, 8] {
         let manner = Manner {
             range_size: 4,
@@ -19,8 +18,7 @@ fn the_reading_ends_behind_the_first_bad_range(rt: HostRuntime) -> Result<(), Fa
             stop: true,
             threads,
         };
-        let read = read_by(&rt, rt.alloc(), &context, TEXT, manner, &OpenGate)?;
-        let tally = Tally {
+        let want = Tally {
             end: State::RowStart,
             stopped: true,
             rows: 3,
@@ -30,7 +28,9 @@ fn the_reading_ends_behind_the_first_bad_range(rt: HostRuntime) -> Result<(), Fa
             rescans: 1,
             rescanned: 4,
         };
-        assert_eq!(rt; tally_of(&read), tally, "by {threads}");
+        let bigint = ColumnType::Bigint;
+        let tally = tally_by(&rt, rt.alloc(), bigint, TEXT, manner, &OpenGate)?;
+        assert_eq!(rt; tally, want, "by {threads}");
     }
     Ok(())
 }
