@@ -1,29 +1,67 @@
-//! Data in windows of groups of a few ranges.
-ghost use Rattle.std.specs.Prelude.{◌≤◌, IfOk};
+//! Data in windows of groups of a few ranges, against one reading of all bytes.
+ghost use Rattle.std.specs.Prelude.{◌≡◌, ◌≤◌, true, IfOk};
 ghost use Rattle.range_scan.specs.Scanned.{HasColumns};
+ghost use Rattle.reject_book.specs.declared.book.Keep.TheVariants.{First as first_of};
 
 use super::*;
 use byte_classes::Dialect;
-use csv_source::{Bytes, MemorySource, NoMemory, OpenGate, Source};
+use column_store::Table;
+use csv_source::{Bytes, MemorySource, NoMemory, OpenGate, Source, read_more};
 use quote_automaton::State;
 use range_scan::Context;
-use reject_book::{Keep, Schema};
+use reject_book::{Book, ErrorKind, Keep, Reject, Schema};
 use std::alloc::Global;
 use std::process::Abort;
 use std::test::Fail;
 use std::thread::Threads;
-use value_types::{ColumnType, Names, Types};
+use value_types::{Cell, ColumnType, Names, Types};
+
+/// How a text is read.
+#[derive(Clone, Copy)]
+struct Way {
+    line_size: u64,
+    /// The bytes that are held before the data are read.
+    head: usize,
+    most: u64,
+    range_size: u64,
+    stop: bool,
+    threads: u32,
+    /// The call of the source that fails; none where it is 0.
+    fails: u64,
+}
+
+/// All bytes are held, in one range.
+fn at_once(line_size: u64, stop: bool) -> Way {
+    Way {
+        line_size,
+        head: 1_000_000,
+        most: 1_000_000,
+        range_size: 1_000_000,
+        stop,
+        threads: 1,
+        fails: 0,
+    }
+}
 
 fn commas(rt: &impl Abort) -> Dialect {
     let Ok(dialect) = Dialect::new(b',', Some(b'"'), Some(b'"')) else {
         panic!(rt; "these bytes make a dialect");
     };
+    let Ok(dialect) = dialect.with_comment(b'#') else {
+        panic!(rt; "comments have a byte of their own");
+    };
     dialect
 }
 
-fn context_of(alloc: Global, dialect: Dialect) -> Result<Context, NoMemory>
+fn context_of(
+    alloc: Global,
+    dialect: Dialect,
+    line_size: u64,
+    stop: bool,
+) -> Result<Context, NoMemory>
     ensures columns { IfOk result (λ context. HasColumns context.schema) }
-    ensures line { IfOk result (λ context. context.schema.max_line_size ≤ 4_194_304) }
+    ensures line { IfOk result (λ context. context.schema.max_line_size ≡ line_size) }
+    ensures keep { IfOk result (λ context. stop ≡ true → context.keep ≡ first_of 1) }
 {
     let mut names = Names::new(alloc);
     let mut types = Types::new(alloc);
@@ -37,85 +75,285 @@ fn context_of(alloc: Global, dialect: Dialect) -> Result<Context, NoMemory>
         nullstr: Bytes::from_vec(Vec::new(alloc)),
         allow_quoted_nulls: true,
         null_padding: false,
-        max_line_size: 20,
+        max_line_size: line_size,
     };
     Ok(Context {
         dialect,
         schema,
-        keep: Keep::All,
+        keep: if stop { Keep::First(1) } else { Keep::All },
         scan_id: 0,
         file_id: 0,
     })
 }
 
-/// Rows over two lines each, of 10 bytes, of which the last has no number.
-fn rows_of(alloc: Global, count: usize) -> Result<Vec<u8>, NoMemory> {
+/// Some bytes, so many times.
+fn repeated(alloc: Global, piece: &[u8], count: usize) -> Result<Vec<u8>, NoMemory> {
     let mut text = Vec::new(alloc);
-    for number in 0..count {
-        text.extend_from_slice(if number + 1 < count {
-            b"12,\"a\nbc\"\n"
-        } else {
-            b"xy,\"a\nbc\"\n"
-        })?;
+    for _ in 0..count {
+        text.extend_from_slice(piece)?;
     }
     Ok(text)
 }
 
+fn add_bytes(told: &mut Vec<u64>, bytes: &[u8]) -> Result<(), NoMemory> {
+    told.push(bytes.len() as u64)?;
+    for byte in bytes {
+        told.push(*byte as u64)?;
+    }
+    Ok(())
+}
+
+fn add_reject(told: &mut Vec<u64>, reject: &Reject) -> Result<(), NoMemory> {
+    told.push(reject.line)?;
+    told.push(reject.line_byte_position)?;
+    told.push(reject.byte_position)?;
+    told.push(reject.column_idx)?;
+    add_bytes(told, reject.csv_line.as_slice())?;
+    add_bytes(told, reject.error_message.as_slice())
+}
+
+fn add_rejects(told: &mut Vec<u64>, book: &Book) -> Result<(), NoMemory> {
+    told.push(book.all())?;
+    for index in 0..book.len() {
+        add_reject(told, book.get(index))?;
+    }
+    Ok(())
+}
+
+fn add_cell(told: &mut Vec<u64>, cell: Cell<'_>) -> Result<(), NoMemory> {
+    match cell {
+        Cell::Null => add_bytes(told, b"null"),
+        Cell::Value(_) => add_bytes(told, b"value"),
+        Cell::Text(bytes) => add_bytes(told, bytes),
+    }
+}
+
+fn add_table(told: &mut Vec<u64>, table: &Table) -> Result<(), NoMemory> {
+    told.push(table.rows() as u64)?;
+    for row in 0..table.rows() {
+        for column in 0..table.columns() {
+            add_cell(told, table.cell_at(column, row))?;
+        }
+    }
+    Ok(())
+}
+
+fn add_data(told: &mut Vec<u64>, read: &DataRead) -> Result<(), NoMemory> {
+    told.push(read.length)?;
+    told.push(read.line_ends)?;
+    told.push(if read.end == State::RowStart { 1 } else { 0 })?;
+    add_table(told, &read.table)?;
+    add_rejects(told, &read.book)
+}
+
+/// What a load comes to, as numbers, of which the first tells its end.
+fn told_of(alloc: Global, read: &Result<WindowRead, LoadStop>) -> Result<Vec<u64>, NoMemory> {
+    let mut told = Vec::new(alloc);
+    match read {
+        Ok(WindowRead::All(read)) => {
+            told.push(WHOLE)?;
+            add_data(&mut told, read)?;
+        }
+        Ok(WindowRead::Stopped(reject)) => {
+            told.push(STOPPED)?;
+            add_reject(&mut told, reject)?;
+        }
+        Err(LoadStop::Failed) => told.push(FAILED)?,
+        Err(LoadStop::TooLarge) => told.push(TOO_LARGE)?,
+        Err(LoadStop::NoMemory) => return Err(NoMemory),
+    }
+    Ok(told)
+}
+
+const WHOLE: u64 = 0;
+
+const STOPPED: u64 = 1;
+
+const FAILED: u64 = 2;
+
+const TOO_LARGE: u64 = 3;
+
+fn read_in<R: Threads + Sync + Abort>(
+    rt: &R,
+    alloc: Global,
+    source: &mut MemorySource,
+    way: Way,
+) -> Result<WindowRead, LoadStop> {
+    assert!(rt; way.line_size <= 4_194_304 && way.most <= 4_294_967_296);
+    assert!(rt; 0 < way.range_size && way.range_size <= 67_108_864);
+    assert!(rt; 1 <= way.threads && way.threads <= 64);
+    let context = context_of(alloc, commas(rt), way.line_size, way.stop)?;
+    let mut head = InputWindow::new(alloc, way.most);
+    head.fill_to(source, way.head)?;
+    window_load(
+        rt,
+        alloc,
+        &context,
+        head,
+        0,
+        source,
+        way.range_size,
+        way.stop,
+        way.threads,
+        &OpenGate,
+    )
+}
+
+/// What the load of a text comes to, and how many bytes of it are left, up to 1,000.
+fn told_in<R: Threads + Sync + Abort>(
+    rt: &R,
+    alloc: Global,
+    text: &[u8],
+    way: Way,
+) -> Result<Vec<u64>, NoMemory> {
+    let mut source = MemorySource::new(alloc);
+    source.put("f.csv", text)?;
+    source.piece(10_000);
+    source.fail_call(way.fails)?;
+    assert!(rt; matches!(source.open("f.csv"), Ok(())));
+    let read = read_in(rt, alloc, &mut source, way);
+    let mut told = told_of(alloc, &read)?;
+    let mut left = Vec::new(alloc);
+    let _ = read_more(&mut source, &mut left, 1_000);
+    told.push(left.len() as u64)?;
+    Ok(told)
+}
+
+/// Rows with one fault and another, line ends in quotes, a comment with a quote, and all three ends of lines.
+const MIXED: &[u8] =
+    b"12,a\n\"x\ny\",b\r\n1234567890,abcdefgh\r3,\"q\"\"r\"\nno,n\n#a comment, and \"more\n,\n";
+
+/// Good rows, and then mixed ones.
+fn mixed(alloc: Global) -> Result<Vec<u8>, NoMemory> {
+    let mut text = repeated(alloc, b"1,a\n", 100)?;
+    text.extend_from_slice(&repeated(alloc, MIXED, 15)?)?;
+    Ok(text)
+}
+
 #[test]
-fn a_text_longer_than_a_window_is_read_whole(rt: HostRuntime) -> Result<(), Fail> {
-    let context = context_of(rt.alloc(), commas(&rt))?;
-    let text = rows_of(rt.alloc(), 20_000)?;
-    for (range_size, threads) in [(100u64, 1u32), (333, 4), (3000, 2)] {
-        assert!(rt; 0 < range_size && range_size < 10_000);
-        assert!(rt; 1 <= threads && threads <= 64);
-        let mut source = MemorySource::new(rt.alloc());
-        source.put("f.csv", &text)?;
-        source.piece(10_000);
-        assert!(rt; matches!(source.open("f.csv"), Ok(())));
-        let head = InputWindow::new(rt.alloc(), 200_000);
-        let read = window_load(
-            &rt,
-            rt.alloc(),
-            &context,
-            head,
-            0,
-            &mut source,
-            range_size,
-            false,
-            threads,
-            &OpenGate,
-        );
-        let Ok(WindowRead::All(read)) = read else {
-            panic!(rt; "the text is read");
-        };
-        assert_eq!(rt; read.table.rows(), 19_999);
-        assert_eq!(rt; read.book.all(), 1);
-        assert_eq!(rt; read.line_ends, 40_000);
-        assert_eq!(rt; read.length, 200_000);
-        assert!(rt; read.end == State::RowStart);
+fn small_windows_read_what_is_read_at_once(rt: HostRuntime) -> Result<(), Fail> {
+    let text = mixed(rt.alloc())?;
+    for stop in [false, true] {
+        for line_size in 1..5 {
+            let whole = at_once(line_size, stop);
+            let wanted = told_in(&rt, rt.alloc(), &text, whole)?;
+            for (range_size, threads) in [(1, 1), (1, 64), (2, 2), (3, 1), (7, 64), (16, 2)] {
+                let mut way = whole;
+                way.head = 0;
+                way.range_size = range_size;
+                way.threads = threads;
+                let told = told_in(&rt, rt.alloc(), &text, way)?;
+                assert_eq!(rt;
+                    told.as_slice(),
+                    wanted.as_slice(),
+                    "{range_size} bytes, {threads} threads"
+                );
+            }
+        }
     }
     Ok(())
 }
 
 #[test]
-fn a_byte_over_the_limit_is_told(rt: HostRuntime) -> Result<(), Fail> {
-    let context = context_of(rt.alloc(), commas(&rt))?;
+fn a_limit_is_kept_to_the_byte(rt: HostRuntime) -> Result<(), Fail> {
+    let text = mixed(rt.alloc())?;
+    let len = text.len() as u64;
+    assert!(rt; len > 2 && len < 1_000_000);
+    for stop in [false, true] {
+        let wanted = told_in(&rt, rt.alloc(), &text, at_once(4, stop))?;
+        for (range_size, head) in [(1, 0), (16, 0), (16, 1_000)] {
+            let mut way = at_once(4, stop);
+            way.head = head;
+            way.range_size = range_size;
+            for (most, left) in [(len - 1, 0), (len - 2, 1)] {
+                way.most = most;
+                let told = told_in(&rt, rt.alloc(), &text, way)?;
+                assert_eq!(rt; told.as_slice(), [TOO_LARGE, left].as_slice());
+            }
+            for most in [len, len + 1] {
+                way.most = most;
+                let told = told_in(&rt, rt.alloc(), &text, way)?;
+                assert_eq!(rt; told.as_slice(), wanted.as_slice());
+            }
+        }
+    }
+    Ok(())
+}
+
+// The first row has a fault, and the first window ends before the tenth call of the source.
+#[test]
+fn what_fails_behind_a_first_error_comes_before_it(rt: HostRuntime) -> Result<(), Fail> {
+    let text = repeated(rt.alloc(), b"xy,abcdef\n", 20_000)?;
+    let mut way = at_once(10, true);
+    way.head = 0;
+    way.range_size = 16;
+    let told = told_in(&rt, rt.alloc(), &text, way)?;
+    assert_eq!(rt; told.first().copied(), Some(STOPPED));
+    way.fails = 15;
+    let told = told_in(&rt, rt.alloc(), &text, way)?;
+    assert_eq!(rt; told.as_slice(), [FAILED, 1_000].as_slice());
+    way.fails = 0;
+    way.most = 150_000;
+    let told = told_in(&rt, rt.alloc(), &text, way)?;
+    assert_eq!(rt; told.as_slice(), [TOO_LARGE, 1_000].as_slice());
+    Ok(())
+}
+
+// Each group of 64 bytes is read in a window of more than 1,000.
+#[test]
+fn ranges_of_a_byte_take_no_quadratic_time(rt: HostRuntime) -> Result<(), Fail> {
+    let text = repeated(rt.alloc(), b"12,\"a\nbc\"\n", 10_000)?;
+    let wanted = told_in(&rt, rt.alloc(), &text, at_once(1_000, false))?;
+    let mut way = at_once(1_000, false);
+    way.head = 0;
+    way.range_size = 1;
+    let told = told_in(&rt, rt.alloc(), &text, way)?;
+    assert_eq!(rt; told.as_slice(), wanted.as_slice());
+    Ok(())
+}
+
+#[test]
+fn a_window_drops_and_reads_past(rt: HostRuntime) -> Result<(), Fail> {
+    let text = repeated(rt.alloc(), b"abcdefghij", 10_000)?;
     let mut source = MemorySource::new(rt.alloc());
-    source.put("f.csv", b"12,a\n34,b\n")?;
+    source.put("f.csv", &text)?;
     assert!(rt; matches!(source.open("f.csv"), Ok(())));
-    let head = InputWindow::new(rt.alloc(), 9);
-    let read = window_load(
-        &rt,
-        rt.alloc(),
-        &context,
-        head,
-        0,
-        &mut source,
-        4,
-        false,
-        2,
-        &OpenGate,
-    );
-    assert!(rt; matches!(read, Err(LoadStop::TooLarge)));
+    let mut window = InputWindow::new(rt.alloc(), 100_000);
+    assert!(rt; window.fill_to(&mut source, 70_000).is_ok());
+    assert!(rt; window.len() == 70_000 && !window.ended());
+    window.drop_front(69_997);
+    assert_eq!(rt; window.bytes(), b"hij".as_slice());
+    assert_eq!(rt; window.base(), 69_997);
+    assert!(rt; window.read_past(&mut source).is_ok());
+    assert!(rt; window.ended());
+    assert_eq!(rt; window.reach(), 100_000);
+    Ok(())
+}
+
+fn reject(alloc: Global) -> Result<Reject, NoMemory> {
+    Ok(Reject {
+        scan_id: 0,
+        file_id: 0,
+        line: 2,
+        line_byte_position: 1,
+        byte_position: 1,
+        column_idx: 1,
+        column_name: Bytes::copy_of(alloc, b"first")?,
+        error_type: ErrorKind::Cast,
+        csv_line: Bytes::copy_of(alloc, b"xy,a")?,
+        error_message: Bytes::copy_of(alloc, b"no number")?,
+    })
+}
+
+#[test]
+fn a_book_is_appended_behind_some_lines(rt: HostRuntime) -> Result<(), Fail> {
+    let mut other = Book::new(rt.alloc(), Keep::All);
+    let mut book = Book::new(rt.alloc(), Keep::All);
+    other.add(reject(rt.alloc())?)?;
+    append_book(&mut book, &other, 5)?;
+    assert!(rt; book.len() == 1);
+    assert_eq!(rt; book.get(0).line, 7);
+    assert_eq!(rt; sum_of(2, 3), Ok(5));
+    assert!(rt; sum_of(u64::MAX, 1).is_err());
     Ok(())
 }
