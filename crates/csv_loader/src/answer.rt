@@ -1,0 +1,9 @@
+// What a file comes to.
+use report_text::Outcome;
+
+/// An outcome that is to be reported, or a text that is the answer as it stands.
+#[derive(Drop)]
+pub enum Answer {
+    Report(Outcome),
+    Text(Vec<u8>),
+}

@@ -1,0 +1,283 @@
+//! Tables that are written again.
+use super::{Case, NoMemory, PEOPLE, PEOPLE_FOUND, all_reply, status_of};
+use csv_source::{MemorySink, MemorySource};
+use std::alloc::Global;
+use std::test::Fail;
+use std::thread::Threads;
+
+const WRITTEN: &[u8] = b"column0,column1\n1,\"a,b\"\n,\"\"\n3,\n";
+
+const EMPTY_TEXTS: &[u8] = b"a\n\"\"\n\nx\n\"\"\n";
+
+const MARKED_NAME: &[u8] = b"\"\xef\xbb\xbfa\",b\n1,2\n";
+
+const CONVERTED: [Case; 10] = [
+    Case {
+        words: &[
+            "convert",
+            "f.csv",
+            "header=false",
+            "types=BIGINT,VARCHAR",
+            "allow_quoted_nulls=false",
+        ],
+        input: b"1,\"a,b\"\n,\"\"\n3,\n",
+        status: 0,
+        text: WRITTEN,
+    },
+    // The same text, loaded again.
+    Case {
+        words: &[
+            "load",
+            "f.csv",
+            "header=true",
+            "delim=,",
+            "quote=\"",
+            "escape=\"",
+            "types=BIGINT,VARCHAR",
+            "allow_quoted_nulls=false",
+        ],
+        input: WRITTEN,
+        status: 0,
+        text: b"options|delim=,|quote=\"|escape=\"|newline=\\n|skip=0|header=true\n\
+column|0|BIGINT|column0\n\
+column|1|VARCHAR|column1\n\
+row|1|a,b\n\
+row|\\N|\n\
+row|3|\\N\n\
+rows|3\n\
+errors|0|0\n",
+    },
+    Case {
+        words: &["convert", "f.csv"],
+        input: b"",
+        status: 0,
+        text: b"column0\n",
+    },
+    // One column, of nulls and empty texts.
+    Case {
+        words: &[
+            "convert",
+            "f.csv",
+            "header=false",
+            "delim=,",
+            "quote=\"",
+            "escape=\"",
+            "names=a",
+            "types=VARCHAR",
+            "allow_quoted_nulls=false",
+        ],
+        input: b"\"\"\n\nx\n\"\"\n",
+        status: 0,
+        text: EMPTY_TEXTS,
+    },
+    Case {
+        words: &[
+            "load",
+            "f.csv",
+            "header=true",
+            "delim=,",
+            "quote=\"",
+            "escape=\"",
+            "types=VARCHAR",
+            "allow_quoted_nulls=false",
+        ],
+        input: EMPTY_TEXTS,
+        status: 0,
+        text: b"options|delim=,|quote=\"|escape=\"|newline=\\n|skip=0|header=true\n\
+column|0|VARCHAR|a\n\
+row|\n\
+row|\\N\n\
+row|x\n\
+row|\n\
+rows|4\n\
+errors|0|0\n",
+    },
+    // A name that begins with a byte order mark.
+    Case {
+        words: &["convert", "f.csv", "header=false", "names=\u{feff}a,b"],
+        input: b"1,2\n",
+        status: 0,
+        text: MARKED_NAME,
+    },
+    Case {
+        words: &["load", "f.csv", "header=true"],
+        input: MARKED_NAME,
+        status: 0,
+        text: b"options|delim=,|quote=\"|escape=\"|newline=\\n|skip=0|header=true\n\
+column|0|BIGINT|\xef\xbb\xbfa\n\
+column|1|BIGINT|b\n\
+row|1|2\n\
+rows|1\n\
+errors|0|0\n",
+    },
+    // A first error ends it as it ends a load.
+    Case {
+        words: &["convert", "f.csv", "names=name,age", "types=VARCHAR,BIGINT"],
+        input: PEOPLE,
+        status: 3,
+        text: PEOPLE_FOUND,
+    },
+    // Neither the stored rejects nor the stats are written.
+    Case {
+        words: &[
+            "convert",
+            "f.csv",
+            "names=name,age",
+            "types=VARCHAR,BIGINT",
+            "store_rejects=true",
+            "stats=true",
+        ],
+        input: PEOPLE,
+        status: 0,
+        text: b"name,age\nPedro,31\n",
+    },
+    // Another delimiter and another quote, line ends inside quotes, comment lines, and dates in their one form.
+    Case {
+        words: &[
+            "convert",
+            "f.csv",
+            "delim=;",
+            "quote='",
+            "escape='",
+            "comment=#",
+            "header=true",
+            "types=VARCHAR,DATE",
+        ],
+        input: b"a;'b\"'\r\n#x;y\r\n'1,5''';2024-02-29\r\n'p\r\nq';\r\n",
+        status: 0,
+        text: b"a,\"b\"\"\"\n\"1,5'\",2024-02-29\n\"p\r\nq\",\n",
+    },
+];
+
+#[test]
+fn tables_are_written_again(rt: HostRuntime) -> Result<(), Fail> {
+    assert!(rt; all_reply(&rt, rt.alloc(), &CONVERTED)?);
+    Ok(())
+}
+
+/// What words write of the bytes of `f.csv`, where they are answered with status 0.
+fn answer_to<R: Threads + Sync>(
+    rt: &R,
+    alloc: Global,
+    words: &[&str],
+    input: &[u8],
+    room: usize,
+) -> Result<Option<MemorySink>, NoMemory> {
+    let mut source = MemorySource::new(alloc);
+    source.put("f.csv", input)?;
+    let mut sink = MemorySink::with_room(alloc, room)?;
+    if status_of(rt, alloc, words, &mut source, &mut sink)? != 0 {
+        return Ok(None);
+    }
+    Ok(Some(sink))
+}
+
+/// Whether words write this text of the bytes of `f.csv`.
+fn writes<R: Threads + Sync>(
+    rt: &R,
+    alloc: Global,
+    words: &[&str],
+    input: &[u8],
+    text: &[u8],
+) -> Result<bool, NoMemory> {
+    match answer_to(rt, alloc, words, input, 2_000_000)? {
+        Some(sink) => Ok(sink.taken() == text),
+        None => Ok(false),
+    }
+}
+
+/// A text between quotes, where `inner` has its quotes doubled, behind some bytes and before an LF.
+fn quoted_line(alloc: Global, before: &[u8], inner: &[u8]) -> Result<Vec<u8>, NoMemory> {
+    let mut line = Vec::new(alloc);
+    line.extend_from_slice(before)?;
+    line.extend_from_slice(b"\"")?;
+    line.extend_from_slice(inner)?;
+    line.extend_from_slice(b"\"\n")?;
+    Ok(line)
+}
+
+/// Whether a text that is read between quotes is written as asked, and whether what is written is written again so.
+fn is_kept<R: Threads + Sync>(
+    rt: &R,
+    alloc: Global,
+    inner: &[u8],
+    quoted: bool,
+) -> Result<bool, NoMemory> {
+    let read = [
+        "convert",
+        "f.csv",
+        "delim=,",
+        "quote=\"",
+        "escape=\"",
+        "header=false",
+        "names=a",
+        "types=VARCHAR",
+        "allow_quoted_nulls=false",
+    ];
+    let read_again = [
+        "convert",
+        "f.csv",
+        "delim=,",
+        "quote=\"",
+        "escape=\"",
+        "header=true",
+        "types=VARCHAR",
+        "allow_quoted_nulls=false",
+    ];
+    let input = quoted_line(alloc, b"", inner)?;
+    let mut text = quoted_line(alloc, b"a\n", inner)?;
+    if !quoted {
+        text.clear();
+        text.extend_from_slice(b"a\n")?;
+        text.extend_from_slice(inner)?;
+        text.extend_from_slice(b"\n")?;
+    }
+    Ok(writes(rt, alloc, &read, &input, &text)? && writes(rt, alloc, &read_again, &text, &text)?)
+}
+
+// Each ASCII byte, and some characters beyond.
+#[test]
+fn a_text_of_one_character_is_quoted_where_needed(rt: HostRuntime) -> Result<(), Fail> {
+    for byte in 0..128u8 {
+        let quoted = matches!(byte, b',' | b'"' | b'\n' | b'\r');
+        let inner: &[u8] = if byte == b'"' { b"\"\"" } else { &[byte] };
+        assert!(rt; is_kept(&rt, rt.alloc(), inner, quoted)?, "{byte}");
+    }
+    for (text, quoted) in [
+        ("", true),
+        ("\u{e9}", false),
+        ("\u{20ac}", false),
+        ("\u{1f600}", false),
+        ("\u{feff}", true),
+        ("a\u{feff}", false),
+    ] {
+        assert!(rt;
+            is_kept(&rt, rt.alloc(), text.as_bytes(), quoted)?,
+            "{text}"
+        );
+    }
+    Ok(())
+}
+
+#[test]
+fn a_made_file_is_written_as_it_is(rt: HostRuntime) -> Result<(), Fail> {
+    let making: &[&str] = &["make", "7", "rows=20000"];
+    let Some(made) = answer_to(&rt, rt.alloc(), making, b"", 2_000_000)? else {
+        return Err(Fail::from(NoMemory));
+    };
+    for threads in ["threads=1", "threads=8"] {
+        let words: &[&str] = &[
+            "convert",
+            "f.csv",
+            "header=true",
+            "types=BIGINT,BOOLEAN,DATE,VARCHAR",
+            "range_size=65536",
+            threads,
+        ];
+        assert!(rt;
+            writes(&rt, rt.alloc(), words, made.taken(), made.taken())?,
+            "{threads}"
+        );
+    }
+    Ok(())
+}
