@@ -1,0 +1,14 @@
+//! The tests, a module for each subject.
+mod comments;
+mod conflicts;
+mod crew;
+mod faults;
+mod found;
+mod large;
+mod long_lines;
+mod made;
+mod ranges;
+mod refused;
+mod rejects;
+mod watched;
+mod windows;
