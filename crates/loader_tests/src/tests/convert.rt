@@ -1,9 +1,11 @@
 //! Tables that are written again.
-use super::{Case, NoMemory, PEOPLE, PEOPLE_FOUND, all_reply, status_of};
-use csv_source::{MemorySink, MemorySource};
+use crate::{Case, OPT, OPT_HEADER, Outside, Reply, WHOLE, reply_to, words_of, wrong_case};
+use csv_source::NoMemory;
 use std::alloc::Global;
 use std::test::Fail;
 use std::thread::Threads;
+
+const PEOPLE: &[u8] = b"Pedro,31\nOogie Boogie, three\n";
 
 const WRITTEN: &[u8] = b"column0,column1\n1,\"a,b\"\n,\"\"\n3,\n";
 
@@ -22,7 +24,8 @@ const CONVERTED: [Case; 10] = [
         ],
         input: b"1,\"a,b\"\n,\"\"\n3,\n",
         status: 0,
-        text: WRITTEN,
+        options: b"",
+        rest: WRITTEN,
     },
     // The same text, loaded again.
     Case {
@@ -38,8 +41,8 @@ const CONVERTED: [Case; 10] = [
         ],
         input: WRITTEN,
         status: 0,
-        text: b"options|delim=,|quote=\"|escape=\"|newline=\\n|skip=0|header=true\n\
-column|0|BIGINT|column0\n\
+        options: OPT_HEADER,
+        rest: b"column|0|BIGINT|column0\n\
 column|1|VARCHAR|column1\n\
 row|1|a,b\n\
 row|\\N|\n\
@@ -51,7 +54,8 @@ errors|0|0\n",
         words: &["convert", "f.csv"],
         input: b"",
         status: 0,
-        text: b"column0\n",
+        options: b"",
+        rest: b"column0\n",
     },
     // One column, of nulls and empty texts.
     Case {
@@ -68,7 +72,8 @@ errors|0|0\n",
         ],
         input: b"\"\"\n\nx\n\"\"\n",
         status: 0,
-        text: EMPTY_TEXTS,
+        options: b"",
+        rest: EMPTY_TEXTS,
     },
     Case {
         words: &[
@@ -83,8 +88,8 @@ errors|0|0\n",
         ],
         input: EMPTY_TEXTS,
         status: 0,
-        text: b"options|delim=,|quote=\"|escape=\"|newline=\\n|skip=0|header=true\n\
-column|0|VARCHAR|a\n\
+        options: OPT_HEADER,
+        rest: b"column|0|VARCHAR|a\n\
 row|\n\
 row|\\N\n\
 row|x\n\
@@ -97,14 +102,15 @@ errors|0|0\n",
         words: &["convert", "f.csv", "header=false", "names=\u{feff}a,b"],
         input: b"1,2\n",
         status: 0,
-        text: MARKED_NAME,
+        options: b"",
+        rest: MARKED_NAME,
     },
     Case {
         words: &["load", "f.csv", "header=true"],
         input: MARKED_NAME,
         status: 0,
-        text: b"options|delim=,|quote=\"|escape=\"|newline=\\n|skip=0|header=true\n\
-column|0|BIGINT|\xef\xbb\xbfa\n\
+        options: OPT_HEADER,
+        rest: b"column|0|BIGINT|\xef\xbb\xbfa\n\
 column|1|BIGINT|b\n\
 row|1|2\n\
 rows|1\n\
@@ -115,7 +121,10 @@ errors|0|0\n",
         words: &["convert", "f.csv", "names=name,age", "types=VARCHAR,BIGINT"],
         input: PEOPLE,
         status: 3,
-        text: PEOPLE_FOUND,
+        options: OPT,
+        rest: b"column|0|VARCHAR|name\n\
+column|1|BIGINT|age\n\
+error|0|0|2|10|23|2|age|CAST|Oogie Boogie, three|Error when converting column \"age\". Could not convert string \" three\" to 'BIGINT'\n",
     },
     // Neither the stored rejects nor the stats are written.
     Case {
@@ -129,7 +138,8 @@ errors|0|0\n",
         ],
         input: PEOPLE,
         status: 0,
-        text: b"name,age\nPedro,31\n",
+        options: b"",
+        rest: b"name,age\nPedro,31\n",
     },
     // Another delimiter and another quote, line ends inside quotes, comment lines, and dates in their one form.
     Case {
@@ -145,31 +155,31 @@ errors|0|0\n",
         ],
         input: b"a;'b\"'\r\n#x;y\r\n'1,5''';2024-02-29\r\n'p\r\nq';\r\n",
         status: 0,
-        text: b"a,\"b\"\"\"\n\"1,5'\",2024-02-29\n\"p\r\nq\",\n",
+        options: b"",
+        rest: b"a,\"b\"\"\"\n\"1,5'\",2024-02-29\n\"p\r\nq\",\n",
     },
 ];
 
 #[test]
 fn tables_are_written_again(rt: HostRuntime) -> Result<(), Fail> {
-    assert!(rt; all_reply(&rt, rt.alloc(), &CONVERTED)?);
+    assert_eq!(rt; wrong_case(&rt, rt.alloc(), &CONVERTED)?, None);
     Ok(())
 }
 
-/// What words write of the bytes of `f.csv`, where they are answered with status 0.
-fn answer_to<R: Threads + Sync>(
+/// Sound, with room for the larger texts.
+const ROOMY: Outside = Outside {
+    room: 2_000_000,
+    ..WHOLE
+};
+
+/// What words make of the bytes of `f.csv`.
+fn reply_of<R: Threads + Sync>(
     rt: &R,
     alloc: Global,
     words: &[&str],
     input: &[u8],
-    room: usize,
-) -> Result<Option<MemorySink>, NoMemory> {
-    let mut source = MemorySource::new(alloc);
-    source.put("f.csv", input)?;
-    let mut sink = MemorySink::with_room(alloc, room)?;
-    if status_of(rt, alloc, words, &mut source, &mut sink)? != 0 {
-        return Ok(None);
-    }
-    Ok(Some(sink))
+) -> Result<Reply, NoMemory> {
+    reply_to(rt, alloc, &words_of(alloc, words)?, input, ROOMY)
 }
 
 /// Whether words write this text of the bytes of `f.csv`.
@@ -180,10 +190,8 @@ fn writes<R: Threads + Sync>(
     input: &[u8],
     text: &[u8],
 ) -> Result<bool, NoMemory> {
-    match answer_to(rt, alloc, words, input, 2_000_000)? {
-        Some(sink) => Ok(sink.taken() == text),
-        None => Ok(false),
-    }
+    let reply = reply_of(rt, alloc, words, input)?;
+    Ok(reply.status() == 0 && reply.text() == text)
 }
 
 /// A text between quotes, where `inner` has its quotes doubled, behind some bytes and before an LF.
@@ -262,9 +270,8 @@ fn a_text_of_one_character_is_quoted_where_needed(rt: HostRuntime) -> Result<(),
 #[test]
 fn a_made_file_is_written_as_it_is(rt: HostRuntime) -> Result<(), Fail> {
     let making: &[&str] = &["make", "7", "rows=20000"];
-    let Some(made) = answer_to(&rt, rt.alloc(), making, b"", 2_000_000)? else {
-        return Err(Fail::from(NoMemory));
-    };
+    let made = reply_of(&rt, rt.alloc(), making, b"")?;
+    assert_eq!(rt; made.status(), 0);
     for threads in ["threads=1", "threads=8"] {
         let words: &[&str] = &[
             "convert",
@@ -275,7 +282,7 @@ fn a_made_file_is_written_as_it_is(rt: HostRuntime) -> Result<(), Fail> {
             threads,
         ];
         assert!(rt;
-            writes(&rt, rt.alloc(), words, made.taken(), made.taken())?,
+            writes(&rt, rt.alloc(), words, made.text(), made.text())?,
             "{threads}"
         );
     }

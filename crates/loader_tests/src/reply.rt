@@ -1,0 +1,56 @@
+//! What comes of one run.
+use crate::outside::Outside;
+use crate::status::status_of;
+use csv_source::{MemorySink, MemorySource, NoMemory, OpenGate};
+use std::alloc::Global;
+use std::thread::Threads;
+
+/// A status, and the text that the sink has taken.
+#[derive(Drop)]
+pub struct Reply {
+    status: u8,
+    sink: MemorySink,
+}
+
+impl Reply {
+    pub fn status(&self) -> u8 {
+        self.status
+    }
+
+    pub fn text(&self) -> &[u8] {
+        self.sink.taken()
+    }
+}
+
+fn source_with(alloc: Global, input: &[u8], outside: Outside) -> Result<MemorySource, NoMemory> {
+    let mut source = MemorySource::new(alloc);
+    source.put("f.csv", input)?;
+    source.piece(outside.source_piece);
+    if let Some(call) = outside.failing_source_call {
+        source.fail_call(call)?;
+    }
+    Ok(source)
+}
+
+fn sink_with(alloc: Global, outside: Outside) -> Result<MemorySink, NoMemory> {
+    let mut sink = MemorySink::with_room(alloc, outside.room)?;
+    sink.piece(outside.sink_piece);
+    if let Some(call) = outside.failing_sink_call {
+        sink.fail_call(call)?;
+    }
+    Ok(sink)
+}
+
+/// What the words come to, with `input` as the file `f.csv`.
+pub fn reply_to<R: Threads + Sync>(
+    rt: &R,
+    alloc: Global,
+    words: &[String],
+    input: &[u8],
+    outside: Outside,
+) -> Result<Reply, NoMemory> {
+    let mut source = source_with(alloc, input, outside)?;
+    let mut sink = sink_with(alloc, outside)?;
+    let status = status_of(rt, alloc, words, &mut source, &mut sink, &OpenGate)?;
+    Ok(Reply { status, sink })
+}
