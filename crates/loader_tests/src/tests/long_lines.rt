@@ -66,7 +66,7 @@ fn rows_and_comments_may_be_longer_than_a_window(rt: HostRuntime) -> Result<(), 
         "sample_size=1",
         "store_rejects=true",
         "max_line_size=8",
-        "range_size=16",
+        "range_size=256",
     ];
     let words = words_of(rt.alloc(), words)?;
     let input = long_lines(rt.alloc())?;
