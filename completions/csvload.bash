@@ -4,14 +4,14 @@ _csvload() {
     local word=${COMP_WORDS[COMP_CWORD]}
     COMPREPLY=()
     if [ "$COMP_CWORD" -eq 1 ]; then
-        COMPREPLY=($(compgen -W 'load summary sniff make --help --version' -- "$word"))
+        COMPREPLY=($(compgen -W 'load summary convert sniff make --help --version' -- "$word"))
         return
     fi
     case ${COMP_WORDS[1]} in
         make)
             [ "$COMP_CWORD" -eq 3 ] && COMPREPLY=($(compgen -W 'rows=' -- "$word"))
             ;;
-        load | summary | sniff)
+        load | summary | convert | sniff)
             if [ "$COMP_CWORD" -eq 2 ]; then
                 COMPREPLY=($(compgen -f -- "$word"))
                 return

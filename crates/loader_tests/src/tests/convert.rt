@@ -243,13 +243,20 @@ fn is_kept<R: Threads + Sync>(
     Ok(writes(rt, alloc, &read, &input, &text)? && writes(rt, alloc, &read_again, &text, &text)?)
 }
 
+/// Whether a text of one ASCII byte is kept.
+fn byte_is_kept<R: Threads + Sync>(rt: &R, alloc: Global, byte: u8) -> Result<bool, NoMemory> {
+    if byte == b'"' {
+        return is_kept(rt, alloc, b"\"\"", true);
+    }
+    let quoted = matches!(byte, b',' | b'\n' | b'\r');
+    is_kept(rt, alloc, &[byte], quoted)
+}
+
 // Each ASCII byte, and some characters beyond.
 #[test]
 fn a_text_of_one_character_is_quoted_where_needed(rt: HostRuntime) -> Result<(), Fail> {
     for byte in 0..128u8 {
-        let quoted = matches!(byte, b',' | b'"' | b'\n' | b'\r');
-        let inner: &[u8] = if byte == b'"' { b"\"\"" } else { &[byte] };
-        assert!(rt; is_kept(&rt, rt.alloc(), inner, quoted)?, "{byte}");
+        assert!(rt; byte_is_kept(&rt, rt.alloc(), byte)?, "{byte}");
     }
     for (text, quoted) in [
         ("", true),
