@@ -7,7 +7,7 @@ use Rattle.value_types.specs.Datum.{Datum}
 use Rattle.value_types.specs.OfType.{fits, fit_all}
 use Rattle.column_store.specs.ChunkView.{ChunkView}
 use Rattle.column_store.specs.Stacked.{rows_in}
-use Rattle.report_text.specs.Printable.{IsSpelledCell}
+use Rattle.value_types.specs.Spelled.{IsSpelledCell}
 use Rattle.report_text.specs.PrintableRows.{IsPrintableRow}
 
 module _ {X : Type 0} (P : X → Type 0) where

@@ -1,16 +1,10 @@
 -- Outcomes that have a text (this loader's profile).
 use Rattle.std.specs.Prelude.{◌≡◌, length, true, All, ⊤}
-use Rattle.value_types.specs.Datum.{Datum, null, typed, text}
-use Rattle.value_types.specs.Spelled.{IsSpelled}
+use Rattle.value_types.specs.Spelled.{IsSpelledCell}
 use Rattle.value_types.specs.OfType.{fit_all}
 use Rattle.report_text.specs.declared.outcome.Loaded.{Loaded}
 use Rattle.report_text.specs.declared.outcome.Outcome.{Outcome}
 use Rattle.report_text.specs.declared.outcome.Outcome.TheVariants as outcome
-
-abbrev pub IsSpelledCell : Datum → Type 0
-IsSpelledCell null = ⊤
-IsSpelledCell (typed value) = IsSpelled value
-IsSpelledCell (text bytes) = ⊤
 
 -- as many names as types, and rows that fit them, of values that some text spells
 pub record IsPrintableLoad (l : Loaded) : Type 0 where

@@ -3,7 +3,7 @@ ghost use Rattle.std.specs.Prelude.{◌≡◌, ◌<◌, ◌++◌, [], flat_map, 
 ghost use Rattle.value_types.specs.Datum.{datum_of};
 ghost use Rattle.column_store.specs.Stacked.{rows_in};
 ghost use Rattle.report_text.specs.Lines.{cell_text, row_line};
-ghost use Rattle.report_text.specs.Printable.{IsSpelledCell};
+ghost use Rattle.value_types.specs.Spelled.{IsSpelledCell};
 ghost use Rattle.report_text.specs.PrintableRows.{IsPrintableRow};
 
 use crate::shown::push_shown;

@@ -3,7 +3,8 @@ ghost use Rattle.std.specs.Prelude.{◌≡◌, ◌∷◌, [], length, true, All,
 ghost use Rattle.value_types.specs.declared.types.ColumnType.TheVariants as column;
 ghost use Rattle.value_types.specs.Datum.{datum_of};
 ghost use Rattle.value_types.specs.OfType.{fit_all, fits};
-ghost use Rattle.report_text.specs.Printable.{IsPrintable, IsPrintableLoad, IsSpelledCell};
+ghost use Rattle.value_types.specs.Spelled.{IsSpelledCell};
+ghost use Rattle.report_text.specs.Printable.{IsPrintable, IsPrintableLoad};
 
 use super::*;
 use byte_classes::Dialect;

@@ -350,7 +350,7 @@ fn a_book_is_appended_behind_some_lines(rt: HostRuntime) -> Result<(), Fail> {
     let mut other = Book::new(rt.alloc(), Keep::All);
     let mut book = Book::new(rt.alloc(), Keep::All);
     other.add(reject(rt.alloc())?)?;
-    append_book(&mut book, &other, 5)?;
+    append_book(&mut book, other, 5)?;
     assert!(rt; book.len() == 1);
     assert_eq!(rt; book.get(0).line, 7);
     assert_eq!(rt; sum_of(2, 3), Ok(5));

@@ -6,7 +6,7 @@ use Rattle.value_types.specs.declared.types.ColumnType.TheVariants.{Bigint, Varc
 use Rattle.value_types.specs.Datum.{Datum, datum_of, text}
 use Rattle.value_types.specs.OfType.{fit_all}
 use Rattle.column_store.specs.TableView.{TableView}
-use Rattle.report_text.specs.Printable.{IsSpelledCell}
+use Rattle.value_types.specs.Spelled.{IsSpelledCell}
 use Rattle.report_text.proofs.tests.push.Goals as goal
 
 -- one row more
