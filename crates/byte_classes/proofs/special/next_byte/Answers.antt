@@ -1,0 +1,11 @@
+use Rattle.std.proofs.Common.{◌≡◌, Bool, true, false, ◌||◌, get_or, refl, ◌∙◌}
+use Rattle.std.specs.Prelude.{◌==◌}
+use Rattle.byte_classes.specs.Places.{first_place}
+use Rattle.byte_classes.proofs.special.next_byte.Goals as goal
+
+thrice : (t : Bool) → ((t || t) || t) ≡ t
+thrice true = refl
+thrice false = refl
+
+pub returns : goal.returns
+returns c = c.next_mark.ensures ∙ (λ i. first_place (λ r. thrice (get_or c.args.bytes.now r 0 == c.args.byte) i) c.args.from c.args.bytes.now)
