@@ -13,8 +13,10 @@ use byte_classes::{Dialect, next_byte};
 use csv_source::NoMemory;
 
 /// The quote, where it is its own escape.
+#[inline(always)]
 pub fn doubled_quote(dialect: &Dialect) -> Option<u8>
-    ensures { IsDoubled dialect.now result }
+    ensures value { IsDoubled dialect.now result }
+    ensures sound { IsDialect dialect.now }
 {
     if dialect.quote() == dialect.escape() {
         dialect.quote()
