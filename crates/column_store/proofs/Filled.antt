@@ -1,10 +1,11 @@
 -- The columns of a chunk through its calls.
-use Rattle.std.proofs.Common.{◌≡◌, ◌≢◌, ℕ, zero, suc, ◌+◌, ◌-◌, ◌^◌, ◌<◌, ◌≤◌, refl, sym, ap, ◌∙◌, subst, arith, List, [], ◌∷◌, ◌++◌, length, get_or, set, take, map, inl, inr, Result, Ok, Err, true, Some}
-use Rattle.std.specs.Prelude.{All, OnErr, slice_get}
+use Rattle.std.proofs.Common.{◌≡◌, ◌≢◌, ℕ, zero, suc, ◌+◌, ◌-◌, ◌^◌, ◌<◌, ◌≤◌, refl, sym, ap, ◌∙◌, subst, arith, List, [], ◌∷◌, ◌++◌, length, get_or, set, take, map, inl, inr, Result, Ok, Err, true, false, Option, Some, None, is_some, append-nil}
+use Rattle.std.specs.Prelude.{All, OnErr, option_and_then, slice_get}
+use Rattle.std.specs.Option.{option_to_list}
 use Rattle.std.proofs.lemmas.Bool.{cases_eq, cases_lt, and_parts, false≢true}
-use Rattle.std.proofs.lemmas.List.{length-append, length-map, length-set, length-take, get_or_default, get_or-set_same, get_or-set_other, get_or_push, map-set, map_push, take-take, take_more_set, take-set, take_all, take_at, take_more}
-use Rattle.std.proofs.lemmas.Option.{get_or_from_slice_get, none-some, same_Some, slice_get_within}
-use Rattle.value_types.specs.OfType.{fits, fit_all}
+use Rattle.std.proofs.lemmas.List.{length-append, length-map, length-set, length-take, get_or_default, get_or-set_same, get_or-set_other, get_or_push, get_or-map, map-set, map_push, take-take, take_more_set, take-set, take_all, take_at, take_more}
+use Rattle.std.proofs.lemmas.Option.{get_or_from_slice_get, none-some, same_Some, slice_get-get_or, slice_get_within}
+use Rattle.value_types.specs.OfType.{fits, fit_all, typed_cell}
 use Rattle.value_types.specs.declared.types.ColumnType.{ColumnType}
 use Rattle.value_types.specs.Datum.{Datum, null}
 use Rattle.column_store.specs.ChunkView.{ChunkView}
@@ -156,10 +157,10 @@ set_front xs place was column is inside keeps = record {
   ];
 }
 
--- a column that got a cell
-pub grown : (was column : Column) (cell : Datum) → type_of column ≡ type_of was → cells_of column ≡ cells_of was ++ cell ∷ [] → room_of was ≤ room_of column → KeepsFront was column
-grown was column cell ty cells room =
-    record { ty = ty; cells = ap (take (length (cells_of was))) cells ∙ take_at (cells_of was) (cell ∷ []) (length (cells_of was)) refl; room = room }
+-- a column that got cells
+pub grown : (was column : Column) (more : List Datum) → type_of column ≡ type_of was → cells_of column ≡ cells_of was ++ more → room_of was ≤ room_of column → KeepsFront was column
+grown was column more ty cells room =
+    record { ty = ty; cells = ap (take (length (cells_of was))) cells ∙ take_at (cells_of was) more (length (cells_of was)) refl; room = room }
 
 -- a column that only got memory
 pub unchanged : (was column : Column) → type_of column ≡ type_of was → cells_of column ≡ cells_of was → room_of was ≤ room_of column → KeepsFront was column
@@ -189,6 +190,30 @@ next_inside xs rows begun tys unfinished cell within types row fits =
     let a : length unfinished ≡ begun = ap length (sym row) ∙ length_begun xs rows begun within in
     let b : length xs ≡ length tys = sym (length-map xs type_of) ∙ ap length types in
     omega arith
+
+-- the next column, where there is one, and its type
+module _ (xs : List Column) (rows begun : ℕ) (tys : List ColumnType) (unfinished : List Datum) (within : begun ≤ length xs) (types : map type_of xs ≡ tys)
+    (row : row_at (take begun (map cells_of xs)) rows ≡ unfinished) (next : length unfinished < length tys) where
+  begun_is : length unfinished ≡ begun
+  begun_is = ap length (sym row) ∙ length_begun xs rows begun within
+
+  pub column_inside : begun < length xs
+  column_inside = omega (arith, begun_is, length-map xs type_of, ap length types, next)
+
+  pub spelled_as : (text : List ℕ) (was : Column) → was ≡ get_or xs begun was → option_and_then (typed_cell text) (slice_get tys (length unfinished)) ≡ typed_cell text (type_of was)
+  spelled_as text was is =
+      (λ i. option_and_then (typed_cell text) (slice_get (sym types i) (begun_is i)))
+      ∙ ap (option_and_then (typed_cell text)) (slice_get-get_or (map type_of xs) begun (type_of was) (omega (arith, column_inside, length-map xs type_of))
+      ∙ ap Some (get_or-map type_of xs begun was (type_of was) column_inside ∙ ap type_of (sym is)))
+
+-- a cell that is there, and one that isn't
+pub one_more : (o : Option Datum) → true ≡ is_some o → (cell : Datum) × (option_to_list o ≡ cell ∷ [])
+one_more None there = absurd (false≢true (sym there))
+one_more (Some cell) there = (cell, refl)
+
+pub none_more : (o : Option Datum) (cells : List Datum) → false ≡ is_some o → cells ++ option_to_list o ≡ cells
+none_more None cells there = append-nil cells
+none_more (Some cell) cells there = absurd (false≢true there)
 
 -- ---- where only the memory of the columns has changed
 

@@ -3,6 +3,7 @@ pub mod Nullable
 pub mod ColumnCells
 pub mod RowsOfColumns
 pub mod ChunkView
+pub mod NextCell
 pub mod ColumnChanges
 pub mod IsFilled
 pub mod Stacked

@@ -1,7 +1,9 @@
 // A chunk of rows.
-ghost use Rattle.std.specs.Prelude.{◌≡◌, ◌≤◌, ◌<◌, ◌+◌, ◌-◌, ◌++◌, ◌∷◌, ◌^◌, [], length, take, IfOk, IsTrue, OnErr, OnOk, Some};
+ghost use Rattle.std.specs.Prelude.{◌≡◌, ◌≤◌, ◌<◌, ◌+◌, ◌-◌, ◌++◌, ◌∷◌, ◌^◌, [], is_some, length, take, IfOk, IsTrue, OnErr, OnOk, Some};
+ghost use Rattle.std.specs.Option.{option_to_list};
 ghost use Rattle.value_types.specs.Datum.{datum_of};
 ghost use Rattle.value_types.specs.OfType.{fit_all};
+ghost use Rattle.column_store.specs.NextCell.{spelled_cell};
 ghost use Rattle.column_store.specs.RowsOfColumns.{FitsColumn, HasNoTexts};
 ghost use Rattle.column_store.specs.TableView.{cell_of};
 
@@ -97,6 +99,22 @@ impl Chunk {
         self.columns[self.begun].push(cell)?;
         self.begun += 1;
         Ok(())
+    }
+
+    /// Appends the cell that a text spells as the type of the next column to the row under way, and answers whether it
+    /// spells one. Where it spells none, nothing is appended.
+    #[inline(always)]
+    pub fn push_spelled(&mut self, text: &[u8]) -> Result<bool, NoMemory>
+        requires { length self.old.unfinished < length self.old.types }
+        ensures value { IfOk result (λ spelled. spelled ≡ is_some (spelled_cell self.old text.now)) }
+        ensures ok { OnOk result (self.new ≡ record self.old { unfinished = self.old.unfinished ++ option_to_list (spelled_cell self.old text.now) }) }
+        ensures err { OnErr result (self.new ≡ self.old) }
+    {
+        if self.columns[self.begun].push_spelled(text)? {
+            self.begun += 1;
+            return Ok(true);
+        }
+        Ok(false)
     }
 
     /// Keeps the first rows alone, and nothing of the row under way. Rows that go are spare again.

@@ -1,8 +1,9 @@
 // A column of one type.
-ghost use Rattle.std.specs.Prelude.{◌≡◌, ◌≢◌, ◌≤◌, ◌<◌, ◌+◌, ◌++◌, ◌∷◌, [], length, slice_get, take, IsTrue, Some, OnErr, OnOk};
+ghost use Rattle.std.specs.Prelude.{◌≡◌, ◌≢◌, ◌≤◌, ◌<◌, ◌+◌, ◌++◌, ◌∷◌, [], is_some, length, slice_get, take, IfOk, IsTrue, Some, OnErr, OnOk};
+ghost use Rattle.std.specs.Option.{option_to_list};
 ghost use Rattle.value_types.specs.declared.types.ColumnType.TheVariants.{Varchar as varchar};
 ghost use Rattle.value_types.specs.Datum.{datum_of};
-ghost use Rattle.value_types.specs.OfType.{fits};
+ghost use Rattle.value_types.specs.OfType.{fits, typed_cell};
 ghost use Rattle.column_store.specs.ColumnCells.{cells_of, room_of, type_of};
 
 use crate::nullable::Nullable;
@@ -10,7 +11,9 @@ use crate::nullable_texts::NullableTexts;
 use crate::unwrapping::{boolean_in, date_in, number_in, stamp_in, text_in, time_in};
 use csv_source::NoMemory;
 use std::alloc::Global;
-use value_types::{Cell, ColumnType, Value};
+use value_types::{
+    Cell, ColumnType, Value, cast_bigint, cast_boolean, cast_date, cast_time, cast_timestamp,
+};
 
 /// A column: its values in vectors of their type's width.
 #[derive(Drop)]
@@ -88,6 +91,28 @@ impl Column {
             Column::Time(column) => column.push(time_in(cell)),
             Column::Timestamp(column) => column.push(stamp_in(cell)),
             Column::Varchar(column) => column.push(text_in(cell)),
+        }
+    }
+
+    /// Appends the cell that a text spells as the type, and answers whether it spells one.
+    #[inline(always)]
+    pub(crate) fn push_spelled(&mut self, text: &[u8]) -> Result<bool, NoMemory>
+        ensures ty { type_of self.new ≡ type_of self.old }
+        ensures value { IfOk result (λ spelled. spelled ≡ is_some (typed_cell text.now (type_of self.old))) }
+        ensures ok { OnOk result (cells_of self.new ≡ cells_of self.old ++ option_to_list (typed_cell text.now (type_of self.old))) }
+        ensures err { OnErr result (cells_of self.new ≡ cells_of self.old) }
+        ensures room { room_of self.old ≤ room_of self.new }
+    {
+        match self {
+            Column::Boolean(column) => column.push_some(cast_boolean(text)),
+            Column::Bigint(column) => column.push_some(cast_bigint(text)),
+            Column::Date(column) => column.push_some(cast_date(text)),
+            Column::Time(column) => column.push_some(cast_time(text)),
+            Column::Timestamp(column) => column.push_some(cast_timestamp(text)),
+            Column::Varchar(column) => {
+                column.push_text(text)?;
+                Ok(true)
+            }
         }
     }
 

@@ -1,6 +1,6 @@
 // Values that may be null.
-ghost use Rattle.std.specs.Prelude.{◌≡◌, ◌≤◌, ◌<◌, ◌+◌, ◌++◌, ◌∷◌, [], length, slice_get, take, Some, OnErr, OnOk};
-ghost use Rattle.std.specs.Option.{option_map};
+ghost use Rattle.std.specs.Prelude.{◌≡◌, ◌≤◌, ◌<◌, ◌+◌, ◌++◌, ◌∷◌, [], is_some, length, map, slice_get, take, IfOk, Some, OnErr, OnOk};
+ghost use Rattle.std.specs.Option.{option_to_list};
 
 use csv_source::NoMemory;
 use std::alloc::Global;
@@ -72,6 +72,23 @@ impl<T: Copy + Default> Nullable<T> {
             Some(value) => value,
             None => T::default(),
         });
+    }
+
+    /// Appends a value where there is one, and answers whether there is.
+    #[inline(always)]
+    pub(crate) fn push_some(&mut self, value: Option<T>) -> Result<bool, NoMemory>
+        ensures value { IfOk result (λ some. some ≡ is_some value) }
+        ensures ok { OnOk result (options self.new ≡ options self.old ++ map Some (option_to_list value)) }
+        ensures err { OnErr result (options self.new ≡ options self.old) }
+        ensures room { room self.old ≤ room self.new }
+    {
+        let Some(value) = value else {
+            return Ok(false);
+        };
+        self.reserve(1)?;
+        self.nulls.push_reserved(false);
+        self.values.push_reserved(value);
+        Ok(true)
     }
 
     pub(crate) fn append(&mut self, other: &Nullable<T>) -> Result<(), NoMemory>

@@ -58,17 +58,27 @@ impl NullableTexts {
         ensures err { OnErr result (texts_or_null self.new ≡ texts_or_null self.old) }
         ensures room { vec_capacity self.old.nulls ≤ vec_capacity self.new.nulls }
     {
-        self.nulls.reserve(1)?;
         match text {
-            Some(text) => {
-                self.texts.push(text)?;
-                self.nulls.push_reserved(false);
-            }
+            Some(text) => self.push_text(text),
             None => {
+                self.nulls.reserve(1)?;
                 self.texts.push(b"")?;
                 self.nulls.push_reserved(true);
+                Ok(())
             }
         }
+    }
+
+    /// Appends a text that isn't null.
+    #[inline(always)]
+    pub(crate) fn push_text(&mut self, text: &[u8]) -> Result<(), NoMemory>
+        ensures ok { OnOk result (texts_or_null self.new ≡ texts_or_null self.old ++ Some text.now ∷ []) }
+        ensures err { OnErr result (texts_or_null self.new ≡ texts_or_null self.old) }
+        ensures room { vec_capacity self.old.nulls ≤ vec_capacity self.new.nulls }
+    {
+        self.nulls.reserve(1)?;
+        self.texts.push(text)?;
+        self.nulls.push_reserved(false);
         Ok(())
     }
 

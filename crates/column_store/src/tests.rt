@@ -118,3 +118,26 @@ fn an_unfinished_row_is_taken_back(rt: HostRuntime) -> Result<(), NoMemory> {
     assert_eq!(rt; Table::from_chunk(rt.alloc(), chunk).rows(), 1);
     Ok(())
 }
+
+/// Whether a text can be cast into a column of this type.
+fn spells(alloc: Global, ty: ColumnType, text: &[u8]) -> Result<bool, NoMemory> {
+    let mut types = Types::new(alloc);
+    types.push(ty)?;
+    let mut chunk = Chunk::new(alloc, &types)?;
+    chunk.push_spelled(text)
+}
+
+#[test]
+fn texts_are_cast_by_their_columns(rt: HostRuntime) -> Result<(), NoMemory> {
+    let alloc = rt.alloc();
+    assert!(rt; spells(alloc, ColumnType::Boolean, b"TRUE")?);
+    assert!(rt; spells(alloc, ColumnType::Bigint, b" -12 ")?);
+    assert!(rt; !spells(alloc, ColumnType::Bigint, b"9223372036854775808")?);
+    assert!(rt; spells(alloc, ColumnType::Date, b"2024-02-29")?);
+    assert!(rt; !spells(alloc, ColumnType::Date, b"2023-02-29")?);
+    assert!(rt; spells(alloc, ColumnType::Time, b"23:59:59.5")?);
+    assert!(rt; !spells(alloc, ColumnType::Time, b"2024-02-29 23:59:59")?);
+    assert!(rt; spells(alloc, ColumnType::Timestamp, b"2024-02-29 23:59:59")?);
+    assert!(rt; spells(alloc, ColumnType::Varchar, b"")?);
+    Ok(())
+}

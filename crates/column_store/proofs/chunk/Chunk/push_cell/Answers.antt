@@ -26,7 +26,7 @@ invariant_of-self-2 c =
     let column = c.push.new.self in
     let done = c.in_ok-push.ensures in
     let inside : s.begun < length xs = next_inside xs s.rows s.begun c.args.self.now.types c.args.self.now.unfinished (datum_of c.args.cell) c.self.invariant.within (λ i. (c.self.view_is i).types) (λ i. (c.self.view_is i).unfinished) c.requires in
-    let front = set_front xs s.begun was column c.index_mut.ensures.value inside (grown was column (datum_of c.args.cell) done.ty done.ok done.room) in
+    let front = set_front xs s.begun was column c.index_mut.ensures.value inside (grown was column (datum_of c.args.cell ∷ []) done.ty done.ok done.room) in
     let full : length (cells_of was) ≡ s.rows = ap (λ k. length (cells_of k)) c.index_mut.ensures.value ∙ c.self.invariant.waiting s.begun was (omega arith) inside in
     filled_push xs s.rows s.begun s.spare c.self.invariant column inside front (ap length done.ok ∙ length-append (cells_of was) (datum_of c.args.cell ∷ []) ∙ (omega (arith, full)))
 
@@ -38,7 +38,7 @@ returns-clause-ok c =
     let column = c.push.new.self in
     let done = c.in_ok-push.ensures in
     let inside : s.begun < length xs = next_inside xs s.rows s.begun c.args.self.now.types c.args.self.now.unfinished (datum_of c.args.cell) c.self.invariant.within (λ i. (c.self.view_is i).types) (λ i. (c.self.view_is i).unfinished) c.requires in
-    let front = set_front xs s.begun was column c.index_mut.ensures.value inside (grown was column (datum_of c.args.cell) done.ty done.ok done.room) in
+    let front = set_front xs s.begun was column c.index_mut.ensures.value inside (grown was column (datum_of c.args.cell ∷ []) done.ty done.ok done.room) in
     let full : length (cells_of was) ≡ s.rows = ap (λ k. length (cells_of k)) c.index_mut.ensures.value ∙ c.self.invariant.waiting s.begun was (omega arith) inside in
     same_view (kept_types xs s.rows s.begun s.spare c.self.invariant _ front ∙ (λ i. (c.self.view_is i).types)) (kept_rows xs s.rows s.begun s.spare c.self.invariant _ front ∙ (λ i. (c.self.view_is i).rows))
     (row_push xs s.rows s.begun s.spare c.self.invariant column inside front (cells_of was) (datum_of c.args.cell) full done.ok ∙ (λ i. (c.self.view_is i).unfinished ++ datum_of c.args.cell ∷ [])) (λ i. (c.self.view_is i).spare)
