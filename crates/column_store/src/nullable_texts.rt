@@ -43,13 +43,14 @@ impl NullableTexts {
         }
     }
 
-    /// Reserves room for marks; that of the texts depends on their lengths.
+    /// Reserves room for marks and the ends of texts; that of the texts depends on their lengths.
     pub(crate) fn reserve(&mut self, more: usize) -> Result<(), NoMemory>
         ensures value { texts_or_null self.new ≡ texts_or_null self.old }
         ensures ok { OnOk result (length (texts_or_null self.old) + more ≤ vec_capacity self.new.nulls) }
         ensures room { vec_capacity self.old.nulls ≤ vec_capacity self.new.nulls }
     {
         self.nulls.reserve(more)?;
+        self.texts.reserve(more)?;
         Ok(())
     }
 
