@@ -1,0 +1,72 @@
+-- The best candidate so far, one by one.
+use Rattle.std.proofs.Common.{◌≡◌, ℕ, ◌+◌, ◌<◌, Bool, true, false, cond, List, length, get_or, map, Some, slice_get, refl, sym, ap, ◌∙◌, subst, arith}
+use Rattle.std.specs.Cmp.{IsStrictWeakOrder}
+use Rattle.std.specs.List.{IsFirstBest}
+use Rattle.std.proofs.lemmas.List.{get_or-map, length-map}
+use Rattle.std.proofs.lemmas.List.MinMax.{IsFirstBest-keeps, IsFirstBest-none, IsFirstBest-takes, IsFirstBest-unique}
+use Rattle.std.proofs.lemmas.Option.{get_or_from_slice_get, slice_get_within}
+use Rattle.byte_classes.specs.Dialect.{Marks}
+use Rattle.dialect_rank.specs.declared.counts.Score.{Score}
+use Rattle.dialect_rank.specs.declared.scoring.Ranked.{Ranked}
+use Rattle.dialect_rank.specs.Rank.{is_above, best_place}
+use Rattle.dialect_rank.specs.Ranked.{higher, ranked_of}
+use Rattle.dialect_rank.specs.Score.{score_of}
+use Rattle.dialect_rank.proofs.RankLaws.{is_above-back, is_above-trans, best_is_first_highest}
+
+is_ranked : IsStrictWeakOrder is_above
+is_ranked = record { one_way = is_above-back; chain = is_above-trans }
+
+module _ (sample : List ℕ) (whole : Bool) (size : ℕ) (candidates : List Marks) (default : Marks) where
+  abbrev score : Marks → Score
+  score d = score_of d sample whole size
+
+  abbrev scores : List Score
+  scores = map score candidates
+
+  abbrev pub ranked : Marks → Ranked
+  ranked d = ranked_of d sample whole size
+
+  -- the best of the candidates before a place
+  abbrev pub IsBestBelow : ℕ → Ranked → Type 0
+  IsBestBelow place best = (b : ℕ) × IsFirstBest is_above scores place b × (best ≡ ranked (get_or candidates b default))
+
+  pub best_of_one : (d : Marks) (best : Ranked) → slice_get candidates 0 ≡ Some d → best ≡ ranked d → IsBestBelow 1 best
+  best_of_one d best h is = (0, IsFirstBest-none is_ranked scores, is ∙ ap ranked (sym (get_or_from_slice_get candidates 0 d default h)))
+
+  module _ (place : ℕ) (best new : Ranked) (d : Marks) (h : slice_get candidates place ≡ Some d) (b : ℕ) (first : IsFirstBest is_above scores place b) (was : best ≡ ranked (get_or candidates b default))
+      (is : new ≡ higher best (ranked d)) where
+    below : place < length candidates
+    below = slice_get_within candidates place d h
+
+    within : place < length scores
+    within = omega (arith, below, length-map candidates score)
+
+    at_x : score d ≡ get_or scores place (score d)
+    at_x = sym (get_or-map score candidates place d (score d) below ∙ ap score (get_or_from_slice_get candidates place d d h))
+
+    at_y : best.score ≡ get_or scores b best.score
+    at_y = ap (λ (r : Ranked). r.score) was ∙ sym (get_or-map score candidates b default best.score (omega (arith, first.0, below)))
+
+    by_order : (above : Bool) → is_above (score d) best.score ≡ above → IsBestBelow (place + 1) new
+    by_order true up = (
+      place,
+      IsFirstBest-takes is_ranked scores place b (score d) best.score first within at_x at_y up,
+      is ∙ ap (λ t. cond t (ranked d) best) up ∙ ap ranked (sym (get_or_from_slice_get candidates place d default h)),
+    )
+    by_order false level = (
+      b,
+      IsFirstBest-keeps is_ranked scores place b (score d) best.score first within at_x at_y level,
+      is ∙ ap (λ t. cond t (ranked d) best) level ∙ was,
+    )
+
+    pub best_of_more : IsBestBelow (place + 1) new
+    best_of_more = by_order (is_above (score d) best.score) refl
+
+  -- the best of all is the first highest
+  pub best_of_all : (place : ℕ) (best : Ranked) → place ≡ length candidates → 0 < length candidates → IsBestBelow place best → best ≡ ranked (get_or candidates (best_place scores) default)
+  best_of_all place best all some (b, first, is) =
+      let long : length scores ≡ length candidates = length-map candidates score in
+      let law = best_is_first_highest scores (omega (arith, some, long)) in
+      let end : place ≡ length scores = omega (arith, all, long) in
+      let same : b ≡ best_place scores = IsFirstBest-unique is_ranked scores (length scores) b (best_place scores) (score default) (subst (λ n. IsFirstBest is_above scores n b) end first) (law.within, law.highest, law.first) in
+      is ∙ ap (λ k. ranked (get_or candidates k default)) same
