@@ -110,7 +110,8 @@ impl Chunk {
         ensures ok { OnOk result (self.new ≡ record self.old { unfinished = self.old.unfinished ++ option_to_list (spelled_cell self.old text.now) }) }
         ensures err { OnErr result (self.new ≡ self.old) }
     {
-        if self.columns[self.begun].push_spelled(text)? {
+        let roomy = self.spare > 0;
+        if self.columns[self.begun].push_spelled(text, roomy)? {
             self.begun += 1;
             return Ok(true);
         }

@@ -1,5 +1,5 @@
 // A column of one type.
-ghost use Rattle.std.specs.Prelude.{◌≡◌, ◌≢◌, ◌≤◌, ◌<◌, ◌+◌, ◌++◌, ◌∷◌, [], is_some, length, slice_get, take, IfOk, IsTrue, Some, OnErr, OnOk};
+ghost use Rattle.std.specs.Prelude.{◌≡◌, ◌≢◌, ◌≤◌, ◌<◌, ◌+◌, ◌++◌, ◌∷◌, [], true, is_some, length, slice_get, take, IfOk, IsTrue, Some, OnErr, OnOk};
 ghost use Rattle.std.specs.Option.{option_to_list};
 ghost use Rattle.value_types.specs.declared.types.ColumnType.TheVariants.{Varchar as varchar};
 ghost use Rattle.value_types.specs.Datum.{datum_of};
@@ -94,9 +94,11 @@ impl Column {
         }
     }
 
-    /// Appends the cell that a text spells as the type, and answers whether it spells one.
+    /// Appends the cell that a text spells as the type, and answers whether it spells one. `roomy` says that there is room
+    /// for a cell more.
     #[inline(always)]
-    pub(crate) fn push_spelled(&mut self, text: &[u8]) -> Result<bool, NoMemory>
+    pub(crate) fn push_spelled(&mut self, text: &[u8], roomy: bool) -> Result<bool, NoMemory>
+        requires { roomy ≡ true → length (cells_of self.old) < room_of self.old }
         ensures ty { type_of self.new ≡ type_of self.old }
         ensures value { IfOk result (λ spelled. spelled ≡ is_some (typed_cell text.now (type_of self.old))) }
         ensures ok { OnOk result (cells_of self.new ≡ cells_of self.old ++ option_to_list (typed_cell text.now (type_of self.old))) }
@@ -104,11 +106,11 @@ impl Column {
         ensures room { room_of self.old ≤ room_of self.new }
     {
         match self {
-            Column::Boolean(column) => column.push_some(cast_boolean(text)),
-            Column::Bigint(column) => column.push_some(cast_bigint(text)),
-            Column::Date(column) => column.push_some(cast_date(text)),
-            Column::Time(column) => column.push_some(cast_time(text)),
-            Column::Timestamp(column) => column.push_some(cast_timestamp(text)),
+            Column::Boolean(column) => column.push_some(cast_boolean(text), roomy),
+            Column::Bigint(column) => column.push_some(cast_bigint(text), roomy),
+            Column::Date(column) => column.push_some(cast_date(text), roomy),
+            Column::Time(column) => column.push_some(cast_time(text), roomy),
+            Column::Timestamp(column) => column.push_some(cast_timestamp(text), roomy),
             Column::Varchar(column) => {
                 column.push_text(text)?;
                 Ok(true)

@@ -1,5 +1,5 @@
 // Values that may be null.
-ghost use Rattle.std.specs.Prelude.{◌≡◌, ◌≤◌, ◌<◌, ◌+◌, ◌++◌, ◌∷◌, [], is_some, length, map, slice_get, take, IfOk, Some, OnErr, OnOk};
+ghost use Rattle.std.specs.Prelude.{◌≡◌, ◌≤◌, ◌<◌, ◌+◌, ◌++◌, ◌∷◌, [], true, is_some, length, map, slice_get, take, IfOk, Some, OnErr, OnOk};
 ghost use Rattle.std.specs.Option.{option_to_list};
 
 use csv_source::NoMemory;
@@ -74,9 +74,24 @@ impl<T: Copy + Default> Nullable<T> {
         });
     }
 
-    /// Appends a value where there is one, and answers whether there is.
+    /// Makes room for a value, unless there is some already.
     #[inline(always)]
-    pub(crate) fn push_some(&mut self, value: Option<T>) -> Result<bool, NoMemory>
+    fn make_room(&mut self, roomy: bool) -> Result<(), NoMemory>
+        requires { roomy ≡ true → length (options self.old) < room self.old }
+        ensures value { options self.new ≡ options self.old }
+        ensures ok { OnOk result (length (options self.old) < room self.new) }
+        ensures room { room self.old ≤ room self.new }
+    {
+        if roomy {
+            return Ok(());
+        }
+        self.reserve(1)
+    }
+
+    /// Appends a value where there is one, and answers whether there is. `roomy` says that there is room for it.
+    #[inline(always)]
+    pub(crate) fn push_some(&mut self, value: Option<T>, roomy: bool) -> Result<bool, NoMemory>
+        requires { roomy ≡ true → length (options self.old) < room self.old }
         ensures value { IfOk result (λ some. some ≡ is_some value) }
         ensures ok { OnOk result (options self.new ≡ options self.old ++ map Some (option_to_list value)) }
         ensures err { OnErr result (options self.new ≡ options self.old) }
@@ -85,7 +100,7 @@ impl<T: Copy + Default> Nullable<T> {
         let Some(value) = value else {
             return Ok(false);
         };
-        self.reserve(1)?;
+        self.make_room(roomy)?;
         self.nulls.push_reserved(false);
         self.values.push_reserved(value);
         Ok(true)
