@@ -31,6 +31,18 @@ impl<T: Copy + Default> Nullable<T> {
         self.nulls.len()
     }
 
+    pub(crate) fn nulls(&self) -> &[bool]
+        ensures { result.now ≡ self.now.nulls.items }
+    {
+        &self.nulls
+    }
+
+    pub(crate) fn values(&self) -> &[T]
+        ensures { result.now ≡ self.now.values.items }
+    {
+        &self.values
+    }
+
     pub(crate) fn get(&self, row: usize) -> Option<T>
         requires { row < length (options self.now) }
         ensures { slice_get (options self.now) row ≡ Some result }

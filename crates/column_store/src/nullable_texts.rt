@@ -32,6 +32,18 @@ impl NullableTexts {
         self.nulls.len()
     }
 
+    pub(crate) fn nulls(&self) -> &[bool]
+        ensures { result.now ≡ self.now.nulls.items }
+    {
+        &self.nulls
+    }
+
+    pub(crate) fn texts(&self) -> &Texts
+        ensures { result.now ≡ self.now.texts }
+    {
+        &self.texts
+    }
+
     pub(crate) fn get(&self, row: usize) -> Option<&[u8]>
         requires { row < length (texts_or_null self.now) }
         ensures { slice_get (texts_or_null self.now) row ≡ Some (option_copied result) }
