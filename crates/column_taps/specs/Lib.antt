@@ -1,3 +1,9 @@
+pub mod Pairs
+pub mod KeptPairs
 pub mod Seen
 pub mod SeenLines
+pub mod Taken
+pub mod Course
+pub mod Shown
+pub mod Slots
 pub mod Laws

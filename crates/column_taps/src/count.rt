@@ -5,10 +5,11 @@ ghost use Rattle.column_taps.specs.declared.kind.TapKind.TheVariants.{Count};
 ghost use Rattle.column_taps.specs.Seen.{is_filled, nothing_seen};
 
 use crate::lines::push_line;
-use crate::{RowTap, TapKind};
+use crate::{RowTap, TapKind, Tapped};
 use csv_source::NoMemory;
 use itoa::Buffer;
-use value_types::{Cell, Cells};
+use marks::filled_in;
+use value_types::{Cell, Cells, ColumnView};
 
 /// Counts the rows, and their cells that aren't null. Its line is `tap|count|ROWS|CELLS`.
 #[derive(Drop)]
@@ -37,6 +38,8 @@ fn filled(row: &Cells) -> u64
     cells
 }
 
+mod marks;
+
 impl CountTap {
     /// Has seen nothing.
     pub fn new() -> CountTap
@@ -55,10 +58,20 @@ impl RowTap for CountTap {
         TapKind::Count
     }
 
-    fn take(&mut self, row: &Cells) -> Result<(), NoMemory> {
+    fn take(&mut self, row: &Cells) -> Result<Tapped, NoMemory> {
         self.rows += 1;
         self.cells += filled(row);
-        Ok(())
+        Ok(Tapped::Goes)
+    }
+
+    fn take_columns(
+        &mut self,
+        rows: usize,
+        columns: &[ColumnView<'_>],
+    ) -> Result<Option<usize>, NoMemory> {
+        self.rows += rows as u64;
+        self.cells += filled_in(columns, rows);
+        Ok(Some(rows))
     }
 
     fn write_lines(&self, into: &mut Vec<u8>) -> Result<(), NoMemory> {

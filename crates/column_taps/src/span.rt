@@ -1,17 +1,20 @@
 // A tap of the least and the greatest numbers.
-ghost use Rattle.std.specs.Prelude.{◌≡◌, ◌++◌, Some, OnOk, OnErr};
+ghost use Rattle.std.specs.Prelude.{◌≡◌, ◌++◌, take, Some, OnOk, OnErr};
+ghost use Rattle.std.specs.List.{fold};
 ghost use Rattle.value_types.specs.Datum.{datum_of};
+ghost use Rattle.value_types.specs.Views.{view_cells, HasRows};
 ghost use Rattle.column_taps.specs.declared.kind.TapKind.TheVariants.{Span};
 ghost use Rattle.column_taps.specs.Seen.{nothing_seen, taking_in, extent_with};
 ghost use Rattle.column_taps.specs.SeenLines.{extent_line};
 
-use crate::columns::{Known, add_row, write_columns};
+use crate::columns::{Known, add_columns, add_row, write_columns};
 use crate::lines::push_line;
-use crate::{RowTap, TapKind};
+use crate::{RowTap, TapKind, Tapped};
 use csv_source::NoMemory;
 use itoa::Buffer;
+use numbers::with_numbers;
 use std::alloc::Global;
-use value_types::{Cell, Cells, Value};
+use value_types::{Cell, Cells, ColumnView, Value};
 
 /// The least and the greatest number so far.
 #[derive(Clone, Copy)]
@@ -36,6 +39,8 @@ fn taking_in(extent: Option<Extent>, number: i64) -> Extent
     }
 }
 
+mod numbers;
+
 impl Known for Extent {
     ghost with = { extent_with };
 
@@ -46,6 +51,16 @@ impl Known for Extent {
     {
         match cell {
             Cell::Value(Value::Int(number)) => Some(taking_in(extent, number)),
+            _ => extent,
+        }
+    }
+
+    fn with_all(extent: Option<Extent>, rows: usize, column: &ColumnView<'_>) -> Option<Extent>
+        requires { HasRows rows column.now }
+        ensures { result ≡ fold extent_with extent (take rows (view_cells column.now)) }
+    {
+        match *column {
+            ColumnView::Bigint(nulls, values) => with_numbers(extent, rows, nulls, values),
             _ => extent,
         }
     }
@@ -97,8 +112,21 @@ impl RowTap for SpanTap {
         TapKind::Span
     }
 
-    fn take(&mut self, row: &Cells) -> Result<(), NoMemory> {
-        add_row(&mut self.extents, row)
+    fn take(&mut self, row: &Cells) -> Result<Tapped, NoMemory> {
+        add_row(&mut self.extents, row)?;
+        Ok(Tapped::Goes)
+    }
+
+    fn take_columns(
+        &mut self,
+        rows: usize,
+        columns: &[ColumnView<'_>],
+    ) -> Result<Option<usize>, NoMemory> {
+        if rows == 0 {
+            return Ok(Some(0));
+        }
+        add_columns(&mut self.extents, rows, columns)?;
+        Ok(Some(rows))
     }
 
     fn write_lines(&self, into: &mut Vec<u8>) -> Result<(), NoMemory> {

@@ -1,23 +1,28 @@
 // A tap of the longest texts.
-ghost use Rattle.std.specs.Prelude.{◌≡◌, ◌++◌, OnOk, OnErr};
+ghost use Rattle.std.specs.Prelude.{◌≡◌, ◌++◌, take, OnOk, OnErr};
+ghost use Rattle.std.specs.List.{fold};
 ghost use Rattle.value_types.specs.Datum.{datum_of};
+ghost use Rattle.value_types.specs.Views.{view_cells, HasRows};
 ghost use Rattle.column_taps.specs.declared.kind.TapKind.TheVariants as kinds;
 ghost use Rattle.column_taps.specs.Seen.{nothing_seen, width_with};
 ghost use Rattle.column_taps.specs.SeenLines.{width_line};
 
-use crate::columns::{Known, add_row, write_columns};
+use crate::columns::{Known, add_columns, add_row, write_columns};
 use crate::lines::push_line;
-use crate::{RowTap, TapKind};
+use crate::{RowTap, TapKind, Tapped};
 use csv_source::NoMemory;
 use itoa::Buffer;
 use std::alloc::Global;
-use value_types::{Cell, Cells};
+use texts::with_texts;
+use value_types::{Cell, Cells, ColumnView};
 
 /// The length of the longest text so far.
 #[derive(Clone, Copy)]
 pub(crate) struct Width {
     bytes: usize,
 }
+
+mod texts;
 
 impl Known for Width {
     ghost with = { width_with };
@@ -32,6 +37,16 @@ impl Known for Width {
             (Cell::Text(text), Some(width)) => Some(Width {
                 bytes: width.bytes.max(text.len()),
             }),
+            _ => width,
+        }
+    }
+
+    fn with_all(width: Option<Width>, rows: usize, column: &ColumnView<'_>) -> Option<Width>
+        requires { HasRows rows column.now }
+        ensures { result ≡ fold width_with width (take rows (view_cells column.now)) }
+    {
+        match *column {
+            ColumnView::Varchar(nulls, texts) => with_texts(width, rows, nulls, texts),
             _ => width,
         }
     }
@@ -82,8 +97,21 @@ impl RowTap for WidthTap {
         TapKind::Width
     }
 
-    fn take(&mut self, row: &Cells) -> Result<(), NoMemory> {
-        add_row(&mut self.widths, row)
+    fn take(&mut self, row: &Cells) -> Result<Tapped, NoMemory> {
+        add_row(&mut self.widths, row)?;
+        Ok(Tapped::Goes)
+    }
+
+    fn take_columns(
+        &mut self,
+        rows: usize,
+        columns: &[ColumnView<'_>],
+    ) -> Result<Option<usize>, NoMemory> {
+        if rows == 0 {
+            return Ok(Some(0));
+        }
+        add_columns(&mut self.widths, rows, columns)?;
+        Ok(Some(rows))
     }
 
     fn write_lines(&self, into: &mut Vec<u8>) -> Result<(), NoMemory> {

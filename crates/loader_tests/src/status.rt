@@ -2,7 +2,7 @@
 ghost use Rattle.std.specs.Prelude.{All, OnOk};
 ghost use Rattle.column_taps.specs.Seen.{IsFresh};
 
-use column_taps::{CountTap, RowTap, SpanTap, WidthTap};
+use column_taps::{CountTap, DistinctTap, RowTap, SpanTap, WidthTap};
 use csv_loader::run;
 use csv_source::{Gate, NoMemory, Sink, Source};
 use std::alloc::Global;
@@ -17,7 +17,7 @@ pub fn words_of(alloc: Global, words: &[&str]) -> Result<Vec<String>, NoMemory> 
 }
 
 /// Puts a tap behind others. Each has seen nothing.
-fn hand_in(taps: &mut Vec<Box<dyn RowTap>>, tap: Box<dyn RowTap>) -> Result<(), NoMemory>
+pub(crate) fn hand_in(taps: &mut Vec<Box<dyn RowTap>>, tap: Box<dyn RowTap>) -> Result<(), NoMemory>
     requires fresh { All (λ tap. IsFresh (seen tap)) taps.old.items }
     requires new { IsFresh (seen tap) }
     ensures ok { OnOk result (All (λ tap. IsFresh (seen tap)) taps.new.items) }
@@ -39,5 +39,6 @@ pub fn status_of<R: Threads + Sync, S: Source, K: Sink, G: Gate>(
     hand_in(&mut taps, Box::new(alloc, CountTap::new())?)?;
     hand_in(&mut taps, Box::new(alloc, SpanTap::new(alloc))?)?;
     hand_in(&mut taps, Box::new(alloc, WidthTap::new(alloc))?)?;
+    hand_in(&mut taps, Box::new(alloc, DistinctTap::new(alloc, 1000))?)?;
     Ok(run(rt, alloc, words, source, sink, gate, taps))
 }

@@ -11,5 +11,6 @@ mod made;
 mod ranges;
 mod refused;
 mod rejects;
+mod taps;
 mod watched;
 mod windows;

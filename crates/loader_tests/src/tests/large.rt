@@ -15,7 +15,8 @@ rows|800000\n\
 errors|0|0\n\
 tap|count|800000|3200000\n\
 tap|span|0|0|799999\n\
-tap|width|3|22\n";
+tap|width|3|22\n\
+tap|over|1001\n";
 
 /// The summary of many made rows.
 fn many_summed<R: Threads + Sync>(

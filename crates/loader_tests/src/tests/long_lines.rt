@@ -50,7 +50,8 @@ scan|0|0|f.csv|,|\"|\"|\\n|0|false|1\n\
 error|0|0|2200001|4400001|4400001|1|column0|LINE SIZE OVER MAXIMUM|xxxxxxxxx|Maximum line size of 8 bytes exceeded\n\
 errors|1|1\n\
 tap|count|2200002|2200002\n\
-tap|span|0|7|9\n";
+tap|span|0|7|9\n\
+tap|distinct|0\n";
 
 #[test]
 fn rows_and_comments_may_be_longer_than_a_window(rt: HostRuntime) -> Result<(), Fail> {

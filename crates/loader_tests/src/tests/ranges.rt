@@ -187,6 +187,7 @@ rows|50000\n\
 errors|0|0\n\
 tap|count|50000|50000\n\
 tap|span|0|7|7\n\
+tap|distinct|0\n\
 stats|ranges=100000|rescans=0|scanned=100000\n";
 
 #[test]

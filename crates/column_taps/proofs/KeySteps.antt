@@ -1,0 +1,31 @@
+-- Keys that are looked up and added.
+use Rattle.std.proofs.Common.{◌≡◌, ℕ, Bool, true, false, List, [], ◌∷◌, ◌++◌, map, refl, sym, ap, ◌∙◌, subst}
+use Rattle.std.specs.Prelude.{if◌then◌else◌, ◌||◌}
+use Rattle.std.specs.List.{list_any}
+use Rattle.std.proofs.lemmas.List.{map-append}
+use Rattle.indexmap.specs.IndexSet.{insert_key}
+use Rattle.column_taps.specs.declared.pairs.Key.{Key}
+use Rattle.column_taps.specs.KeptPairs.{pair_of}
+use Rattle.column_taps.specs.Pairs.{is_pair, pairs_and}
+
+module _ (eq : Key → Key → Bool) (same : (a b : Key) → eq a b ≡ is_pair a.column a.text.items (pair_of b)) where
+  any_same : (k : Key) (keys : List Key) → list_any (eq k) keys ≡ list_any (is_pair k.column k.text.items) (map pair_of keys)
+  any_same k [] = refl
+  any_same k (x ∷ keys) = λ i. same k x i || any_same k keys i
+
+  either_way : (k : Key) (keys : List Key) (there : Bool) → map pair_of (if there then keys else keys ++ k ∷ []) ≡ (if there then map pair_of keys else map pair_of keys ++ pair_of k ∷ [])
+  either_way k keys true = refl
+  either_way k keys false = map-append pair_of keys (k ∷ [])
+
+  -- a key is added that may be there
+  pub key_added : (k : Key) (keys new : List Key) (text : List ℕ) → new ≡ insert_key eq keys k → k.text.items ≡ text → map pair_of new ≡ pairs_and (map pair_of keys) k.column text
+  key_added k keys new text told is =
+      ap (map pair_of) told ∙ either_way k keys (list_any (eq k) keys)
+      ∙ ap (λ there. if there then map pair_of keys else map pair_of keys ++ pair_of k ∷ []) (any_same k keys)
+      ∙ ap (pairs_and (map pair_of keys) k.column) is
+
+  -- a key is there
+  pub key_there : (k : Key) (keys : List Key) (text : List ℕ) → list_any (eq k) keys ≡ true → k.text.items ≡ text → map pair_of keys ≡ pairs_and (map pair_of keys) k.column text
+  key_there k keys text there is =
+      ap (λ (t : Bool). if t then map pair_of keys else map pair_of keys ++ pair_of k ∷ []) (sym (sym (any_same k keys) ∙ there))
+      ∙ ap (pairs_and (map pair_of keys) k.column) is

@@ -1,0 +1,74 @@
+//! Summaries with taps of the tests' own choice.
+use crate::status::hand_in;
+use crate::words_of;
+use column_taps::{CountTap, DistinctTap, RowTap, TapKind, Tapped};
+use csv_loader::run;
+use csv_source::{MemorySink, MemorySource, NoMemory, OpenGate};
+use std::alloc::Global;
+use std::test::Fail;
+use std::thread::Threads;
+use value_types::Cells;
+
+/// Takes no rows at once, so that each is shown to it by itself.
+#[derive(Drop)]
+struct RowByRow {
+    tap: DistinctTap,
+}
+
+impl RowTap for RowByRow {
+    ghost seen = { λ t. (⟦<DistinctTap as RowTap>⟧).seen t.tap };
+
+    fn kind(&self) -> TapKind {
+        self.tap.kind()
+    }
+
+    fn take(&mut self, row: &Cells) -> Result<Tapped, NoMemory> {
+        self.tap.take(row)
+    }
+
+    fn write_lines(&self, into: &mut Vec<u8>) -> Result<(), NoMemory> {
+        self.tap.write_lines(into)
+    }
+}
+
+/// What a summary of one column of texts writes, with a tap that counts, one of different texts, and that once more row
+/// by row.
+fn summary<R: Threads + Sync>(
+    rt: &R,
+    alloc: Global,
+    input: &[u8],
+    most: u64,
+) -> Result<MemorySink, NoMemory> {
+    let words = words_of(
+        alloc,
+        &["summary", "f.csv", "types=VARCHAR", "header=false"],
+    )?;
+    let mut source = MemorySource::new(alloc);
+    source.put("f.csv", input)?;
+    let mut sink = MemorySink::with_room(alloc, 1000)?;
+    let tap = DistinctTap::new(alloc, most);
+    let mut taps: Vec<Box<dyn RowTap>> = Vec::new(alloc);
+    hand_in(&mut taps, Box::new(alloc, CountTap::new())?)?;
+    hand_in(&mut taps, Box::new(alloc, DistinctTap::new(alloc, most))?)?;
+    hand_in(&mut taps, Box::new(alloc, RowByRow { tap })?)?;
+    run(rt, alloc, &words, &mut source, &mut sink, &OpenGate, taps);
+    Ok(sink)
+}
+
+const FOUR_TEXTS: &[u8] = b"a\nb\na\nc\nd\n";
+
+#[test]
+fn a_tap_over_its_bound_names_the_row(rt: HostRuntime) -> Result<(), Fail> {
+    let sink = summary(&rt, rt.alloc(), FOUR_TEXTS, 2)?;
+    let rest = b"rows|5\nerrors|0|0\ntap|count|5|5\ntap|over|4\ntap|over|4\n";
+    assert!(rt; sink.taken().ends_with(rest));
+    Ok(())
+}
+
+#[test]
+fn a_tap_at_its_bound_goes_on(rt: HostRuntime) -> Result<(), Fail> {
+    let sink = summary(&rt, rt.alloc(), FOUR_TEXTS, 4)?;
+    let rest = b"rows|5\nerrors|0|0\ntap|count|5|5\ntap|distinct|4\ntap|distinct|4\n";
+    assert!(rt; sink.taken().ends_with(rest));
+    Ok(())
+}
