@@ -50,7 +50,9 @@ pub fn load_input<R: Threads + Sync, S: Source, G: Gate>(
         sniffed,
         data_start,
     } = sniff_input(alloc, options, head.bytes())?;
-    match load_data(rt, alloc, options, &sniffed, head, data_start, source, gate)? {
+    match load_data(
+        rt, alloc, options, &sniffed, 0, head, data_start, source, gate,
+    )? {
         Load::Whole(LoadedData { table, book, stats }) => Ok(Ending::Whole(Loaded {
             sniffed,
             table,
