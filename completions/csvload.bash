@@ -4,16 +4,19 @@ _csvload() {
     local word=${COMP_WORDS[COMP_CWORD]}
     COMPREPLY=()
     if [ "$COMP_CWORD" -eq 1 ]; then
-        COMPREPLY=($(compgen -W 'load summary convert sniff make --help --version' -- "$word"))
+        COMPREPLY=($(compgen -W 'load summary convert batch sniff make --help --version' -- "$word"))
         return
     fi
     case ${COMP_WORDS[1]} in
         make)
             [ "$COMP_CWORD" -eq 3 ] && COMPREPLY=($(compgen -W 'rows=' -- "$word"))
             ;;
-        load | summary | convert | sniff)
+        load | summary | convert | batch | sniff)
             if [ "$COMP_CWORD" -eq 2 ]; then
-                COMPREPLY=($(compgen -f -- "$word"))
+                # Of several names the last one is completed.
+                local first=
+                [[ ${COMP_WORDS[1]} = batch && $word == *,* ]] && first=${word%,*},
+                COMPREPLY=($(compgen -P "$first" -f -- "${word#"$first"}"))
                 return
             fi
             # '=' breaks words in most settings of readline, so a value may stand as a word of its own.

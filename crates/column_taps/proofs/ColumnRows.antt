@@ -1,5 +1,5 @@
 -- Rows of columns, taken in column by column.
-use Rattle.std.proofs.Common.{◌≡◌, ◌≢◌, ℤ, Bor, ℕ, zero, suc, ◌+◌, ◌*◌, ◌<◌, ◌≤◌, Bool, true, false, List, [], ◌∷◌, ◌++◌, Option, Some, None, length, take, map, get_or, refl, sym, ap, subst, ◌∙◌, arith}
+use Rattle.std.proofs.Common.{◌≡◌, ◌≢◌, ℤ, Bor, ℕ, zero, suc, ◌+◌, ◌*◌, ◌<◌, ◌≤◌, Bool, true, false, List, [], ◌∷◌, Option, Some, None, length, take, map, get_or, refl, sym, ap, ◌∙◌, arith}
 use Rattle.std.specs.Prelude.{All, slice_get, not, count_by, sum_by, if◌then◌else◌}
 use Rattle.std.specs.List.{fold, range_with_len}
 use Rattle.std.proofs.lemmas.List.{get_or-take, length-take, length-take-le}
@@ -14,7 +14,7 @@ use Rattle.value_types.specs.declared.views.ColumnView.TheVariants as views
 use Rattle.value_types.specs.Views.{marked, row_at, view_cells, view_rows, nulls_in, HasRows}
 use Rattle.column_taps.specs.declared.span.Extent.{Extent}
 use Rattle.column_taps.specs.declared.width.Width.{Width}
-use Rattle.column_taps.specs.Seen.{Seen, counted, spanned, measured, by_column, extent_with, width_with, is_filled}
+use Rattle.column_taps.specs.Seen.{counted, spanned, measured, by_column, extent_with, width_with, is_filled}
 use Rattle.column_taps.specs.Shown.{one_row_more, shown_rows}
 use Rattle.column_taps.proofs.ShownSteps.{many}
 

@@ -1,9 +1,9 @@
 -- The course of a tap that is shown rows at once.
-use Rattle.std.proofs.Common.{◌≡◌, ℕ, zero, suc, ◌+◌, ◌<◌, ◌≤◌, List, [], ◌∷◌, Option, Some, None, length, take, refl, sym, ap, ◌∙◌, add-zero, arith}
+use Rattle.std.proofs.Common.{◌≡◌, ℕ, suc, ◌+◌, ◌<◌, ◌≤◌, List, [], ◌∷◌, Option, Some, None, length, take, refl, sym, ap, ◌∙◌, add-zero, arith}
 use Rattle.std.proofs.lemmas.List.{length-take-le}
 use Rattle.value_types.specs.Datum.{Datum}
 use Rattle.column_taps.specs.Seen.{Seen, step}
-use Rattle.column_taps.specs.Course.{Course, going, over_at, course_of, course_after}
+use Rattle.column_taps.specs.Course.{going, over_at, course_of, course_after}
 use Rattle.column_taps.specs.Shown.{shown_rows, HaveGone}
 use Rattle.column_taps.proofs.ShownSteps.{behind}
 

@@ -8,8 +8,8 @@ use Rattle.column_taps.specs.declared.kind.TapKind.TheVariants.{Count, Span, Wid
 use Rattle.column_taps.specs.declared.span.Extent as extents
 use Rattle.column_taps.specs.declared.width.Width as widths
 use Rattle.column_taps.specs.Pairs.{Pair, pairs_with}
-use Rattle.column_taps.specs.Seen.{Seen, counted, spanned, measured, told_apart, by_column, extent_with, width_with, step, kind_of, nothing_seen, is_filled, IsFresh}
-use Rattle.column_taps.specs.Course.{Course, going, over_at, course_of, course_after, MayGo}
+use Rattle.column_taps.specs.Seen.{Seen, counted, spanned, measured, told_apart, by_column, extent_with, width_with, kind_of, nothing_seen, is_filled, IsFresh}
+use Rattle.column_taps.specs.Course.{going, over_at, course_of, course_after, MayGo}
 
 counts_have_room : (seen_rows cells number : ℕ) (rows : List (List Datum)) → seen_rows + length rows < 2 ^ 62 → cells + sum_by length rows < 2 ^ 62
     → MayGo (course_after number (going (counted seen_rows cells)) rows)

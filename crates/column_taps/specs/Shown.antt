@@ -1,5 +1,5 @@
 -- What a tap does with rows that it is shown at once.
-use Rattle.std.specs.Prelude.{◌≡◌, ℕ, zero, suc, ◌+◌, ◌*◌, ◌<◌, ◌≤◌, ◌^◌, List, [], ◌∷◌, length, take, Option, Some, None, Result, Ok, Err, ⊤}
+use Rattle.std.specs.Prelude.{◌≡◌, ℕ, suc, ◌+◌, ◌*◌, ◌<◌, ◌≤◌, ◌^◌, List, [], ◌∷◌, length, take, Option, Some, None, Result, Ok, Err, ⊤}
 use Rattle.csv_source.specs.declared.bytes.NoMemory.{NoMemory}
 use Rattle.value_types.specs.Datum.{Datum}
 use Rattle.column_taps.specs.Seen.{Seen, counted, spanned, measured, told_apart, step}

@@ -1,18 +1,12 @@
 //! Where cases have other replies than those that are wanted.
 use crate::case::Case;
+use crate::cuts::{Cut, reply_in};
 use crate::outside::IN_PIECES;
 use crate::reply::reply_to;
 use crate::status::words_of;
 use csv_source::NoMemory;
 use std::alloc::Global;
 use std::thread::Threads;
-
-/// Ranges of so many bytes, scanned by so many threads.
-#[derive(Clone, Copy, Debug, PartialEq, Eq)]
-pub struct Cut {
-    pub range_size: usize,
-    pub threads: usize,
-}
 
 /// The number in the table of the first case that isn't met.
 pub fn wrong_case<R: Threads + Sync>(
@@ -37,14 +31,7 @@ fn is_met_in<R: Threads + Sync>(
     case: &Case,
     cut: Cut,
 ) -> Result<bool, NoMemory> {
-    let Cut {
-        range_size,
-        threads,
-    } = cut;
-    let mut words = words_of(alloc, case.words)?;
-    words.push(format!(in alloc; "range_size={range_size}")?)?;
-    words.push(format!(in alloc; "threads={threads}")?)?;
-    let reply = reply_to(rt, alloc, &words, case.input, IN_PIECES)?;
+    let reply = reply_in(rt, alloc, case.words, case.input, cut, IN_PIECES)?;
     Ok(case.is_met_by(&reply))
 }
 

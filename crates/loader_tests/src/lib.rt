@@ -6,6 +6,7 @@
 
 mod case;
 mod cases;
+mod cuts;
 mod inputs;
 mod outside;
 mod reply;
@@ -14,8 +15,9 @@ mod status;
 mod tests;
 
 pub use case::{Case, OPT, OPT_HEADER, OPT_NO_LINE_END};
-pub use cases::{Cut, wrong_case, wrong_cut};
+pub use cases::{wrong_case, wrong_cut};
+pub use cuts::{Cut, changing_cut, reply_in};
 pub use inputs::repeated;
 pub use outside::{IN_PIECES, Outside, WHOLE};
-pub use reply::{Reply, reply_to};
+pub use reply::{File, Reply, reply_to, reply_to_files};
 pub use status::{status_of, words_of};

@@ -22,9 +22,18 @@ impl Reply {
     }
 }
 
-fn source_with(alloc: Global, input: &[u8], outside: Outside) -> Result<MemorySource, NoMemory> {
+/// A name, and the bytes under it.
+pub type File<'a> = (&'a str, &'a [u8]);
+
+fn source_with(
+    alloc: Global,
+    files: &[File<'_>],
+    outside: Outside,
+) -> Result<MemorySource, NoMemory> {
     let mut source = MemorySource::new(alloc);
-    source.put("f.csv", input)?;
+    for (name, input) in files {
+        source.put(name, input)?;
+    }
     source.piece(outside.source_piece);
     if let Some(call) = outside.failing_source_call {
         source.fail_call(call)?;
@@ -41,6 +50,20 @@ fn sink_with(alloc: Global, outside: Outside) -> Result<MemorySink, NoMemory> {
     Ok(sink)
 }
 
+/// What the words come to, with these files.
+pub fn reply_to_files<R: Threads + Sync>(
+    rt: &R,
+    alloc: Global,
+    words: &[String],
+    files: &[File<'_>],
+    outside: Outside,
+) -> Result<Reply, NoMemory> {
+    let mut source = source_with(alloc, files, outside)?;
+    let mut sink = sink_with(alloc, outside)?;
+    let status = status_of(rt, alloc, words, &mut source, &mut sink, &OpenGate)?;
+    Ok(Reply { status, sink })
+}
+
 /// What the words come to, with `input` as the file `f.csv`.
 pub fn reply_to<R: Threads + Sync>(
     rt: &R,
@@ -49,8 +72,5 @@ pub fn reply_to<R: Threads + Sync>(
     input: &[u8],
     outside: Outside,
 ) -> Result<Reply, NoMemory> {
-    let mut source = source_with(alloc, input, outside)?;
-    let mut sink = sink_with(alloc, outside)?;
-    let status = status_of(rt, alloc, words, &mut source, &mut sink, &OpenGate)?;
-    Ok(Reply { status, sink })
+    reply_to_files(rt, alloc, words, &[("f.csv", input)], outside)
 }

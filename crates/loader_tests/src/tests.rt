@@ -1,10 +1,12 @@
 //! The tests, a module for each subject.
+mod batch;
 mod comments;
 mod conflicts;
 mod convert;
 mod crew;
 mod faults;
 mod found;
+mod hostile;
 mod large;
 mod long_lines;
 mod made;

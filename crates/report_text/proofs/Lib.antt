@@ -1,3 +1,4 @@
+pub mod FileBooks
 pub mod Chunks
 pub mod RunTexts
 pub mod Texts

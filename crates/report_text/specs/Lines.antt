@@ -69,11 +69,12 @@ row_line cells = line_of (codes "row" ∷ map cell_text cells)
 abbrev pub rows_line : ℕ → List ℕ
 rows_line count = line_of (codes "rows" ∷ decimal count ∷ [])
 
-abbrev pub scan_line : Sniffed → List ℕ → List ℕ
-scan_line s file = line_of
+-- the scan of the file of a number
+abbrev pub scan_line : Sniffed → ℕ → List ℕ → List ℕ
+scan_line s file_id file = line_of
     (codes "scan"
     ∷ decimal 0
-    ∷ decimal 0
+    ∷ decimal file_id
     ∷ shown file
     ∷ shown_option (Some s.dialect.delim)
     ∷ shown_option s.dialect.quote

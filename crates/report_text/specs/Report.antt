@@ -1,7 +1,10 @@
 -- The whole text of a report (this loader's profile).
-use Rattle.std.specs.Prelude.{ℕ, if◌then◌else◌, List, [], ◌++◌, length, flat_map}
+use Rattle.std.specs.Prelude.{ℕ, if◌then◌else◌, Bool, Option, List, [], ◌++◌, length, flat_map}
 use Rattle.std.specs.Option.{option_map_or}
 use Rattle.csv_sniffer.specs.declared.found.Sniffed.{Sniffed}
+use Rattle.file_list.specs.BatchView.{BatchView}
+use Rattle.report_text.specs.BatchReport.{scan_lines, stored_in, all_in}
+use Rattle.report_text.specs.declared.outcome.Stats.{Stats}
 use Rattle.report_text.specs.declared.outcome.Loaded.{Loaded}
 use Rattle.report_text.specs.declared.outcome.Outcome.{Outcome}
 use Rattle.report_text.specs.declared.outcome.Outcome.TheVariants as outcome
@@ -13,7 +16,7 @@ found_lines s = options_line s ++ column_lines s
 
 -- the rejects, where they are stored: the scan, and the stored rejects
 abbrev pub reject_lines : Loaded → List ℕ
-reject_lines l = if l.store then scan_line l.sniffed l.file ++ flat_map error_line l.book.stored else []
+reject_lines l = if l.store then scan_line l.sniffed 0 l.file ++ flat_map error_line l.book.stored else []
 
 abbrev pub stored_count : Loaded → ℕ
 stored_count l = if l.store then length l.book.stored else 0
@@ -27,6 +30,12 @@ closing_lines l further =
 abbrev pub loaded_lines : Loaded → List ℕ → List ℕ → List ℕ
 loaded_lines l on_rows further = found_lines l.sniffed ++ on_rows ++ closing_lines l further
 
+-- several files: what was found in the first one, the rows, the rejects where they are stored, their numbers, and the stats
+abbrev pub batch_lines : Sniffed → BatchView → Bool → Option Stats → List ℕ
+batch_lines s batch store stats =
+    found_lines s ++ flat_map row_line batch.rows ++ rows_line (length batch.rows) ++ scan_lines s store batch.files
+    ++ errors_line (stored_in store batch.files) (all_in batch.files) ++ option_map_or stats_line stats []
+
 abbrev pub report_of : Outcome → List ℕ
 report_of (outcome.Refused fault word) = refused_line fault word
 report_of outcome.ReadFault = read_fault_line
@@ -34,4 +43,5 @@ report_of (outcome.TooLarge limit) = too_large_line limit
 report_of (outcome.Sniffed s) = found_lines s
 report_of (outcome.Loaded l) = loaded_lines l (flat_map row_line l.table.rows) []
 report_of (outcome.Summary l tap_lines) = loaded_lines l [] tap_lines
+report_of (outcome.Batch s batch store stats) = batch_lines s batch store stats
 report_of (outcome.FirstError s reject) = found_lines s ++ error_line reject

@@ -4,6 +4,7 @@
 //! own and a cell needs no search. `make_text` makes a valid text of any length from a number, for tests and measurements.
 #![tactic(auto)]
 
+mod batch;
 mod faults;
 mod found;
 mod lines;

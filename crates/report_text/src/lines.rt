@@ -1,6 +1,7 @@
 // Lines of parts.
 ghost use Rattle.std.specs.Prelude.{◌≡◌, ◌++◌, ◌∷◌, [], codes, map, OnOk};
 ghost use Rattle.std.specs.Fmt.{decimal};
+ghost use Rattle.std.specs.Option.{option_map_or};
 ghost use Rattle.csv_source.specs.Line.{line_of};
 ghost use Rattle.report_text.specs.Part.{part_text};
 ghost use Rattle.report_text.specs.Lines.{errors_line, rows_line, stats_line};
@@ -85,18 +86,14 @@ pub(crate) fn push_row_count(into: &mut Vec<u8>, rows: usize) -> Result<(), NoMe
 }
 
 /// Appends the line of how many rejects are printed, and how many came.
-pub(crate) fn push_errors(into: &mut Vec<u8>, stored: usize, all: u64) -> Result<(), NoMemory>
+pub(crate) fn push_errors(into: &mut Vec<u8>, stored: u64, all: u64) -> Result<(), NoMemory>
     ensures { OnOk result (into.new.items ≡ into.old.items ++ errors_line stored all) }
 {
-    push_line(
-        into,
-        b"errors",
-        &[Part::Number(stored as u64), Part::Number(all)],
-    )
+    push_line(into, b"errors", &[Part::Number(stored), Part::Number(all)])
 }
 
 /// Appends the line of the stats.
-pub(crate) fn push_stats(into: &mut Vec<u8>, stats: &Stats) -> Result<(), NoMemory>
+fn push_stats(into: &mut Vec<u8>, stats: &Stats) -> Result<(), NoMemory>
     ensures { OnOk result (into.new.items ≡ into.old.items ++ stats_line stats.now) }
 {
     push_line(
@@ -108,4 +105,14 @@ pub(crate) fn push_stats(into: &mut Vec<u8>, stats: &Stats) -> Result<(), NoMemo
             Part::NamedNumber(b"scanned=", stats.scanned),
         ],
     )
+}
+
+/// Appends the line of the stats, where there are some.
+pub(crate) fn push_stats_of(into: &mut Vec<u8>, stats: &Option<Stats>) -> Result<(), NoMemory>
+    ensures { OnOk result (into.new.items ≡ into.old.items ++ option_map_or stats_line stats.now []) }
+{
+    match stats {
+        Some(stats) => push_stats(into, stats),
+        None => Ok(()),
+    }
 }

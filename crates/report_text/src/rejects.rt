@@ -10,16 +10,21 @@ use csv_sniffer::Sniffed;
 use csv_source::NoMemory;
 use reject_book::{Book, Reject, kind_name};
 
-/// Appends the line of a scan.
-fn push_scan(into: &mut Vec<u8>, sniffed: &Sniffed, file: &[u8]) -> Result<(), NoMemory>
-    ensures { OnOk result (into.new.items ≡ into.old.items ++ scan_line sniffed.now file.now) }
+/// Appends the line of the scan of a file, with its number.
+pub(crate) fn push_scan(
+    into: &mut Vec<u8>,
+    sniffed: &Sniffed,
+    file_id: u64,
+    file: &[u8],
+) -> Result<(), NoMemory>
+    ensures { OnOk result (into.new.items ≡ into.old.items ++ scan_line sniffed.now file_id file.now) }
 {
     push_line(
         into,
         b"scan",
         &[
             Part::Number(0),
-            Part::Number(0),
+            Part::Number(file_id),
             Part::Shown(file),
             Part::Mark(Some(sniffed.dialect.delim())),
             Part::Mark(sniffed.dialect.quote()),
@@ -55,7 +60,7 @@ pub(crate) fn push_reject(into: &mut Vec<u8>, reject: &Reject) -> Result<(), NoM
 }
 
 /// Appends the lines of the stored rejects.
-fn push_stored(into: &mut Vec<u8>, book: &Book) -> Result<(), NoMemory>
+pub(crate) fn push_stored(into: &mut Vec<u8>, book: &Book) -> Result<(), NoMemory>
     ensures { OnOk result (into.new.items ≡ into.old.items ++ flat_map error_line book.now.stored) }
 {
     for index in 0..book.len() {
@@ -71,7 +76,7 @@ pub(crate) fn push_rejects(into: &mut Vec<u8>, loaded: &Loaded) -> Result<(), No
     if !loaded.store {
         return Ok(());
     }
-    push_scan(into, &loaded.sniffed, loaded.file.as_slice())?;
+    push_scan(into, &loaded.sniffed, 0, loaded.file.as_slice())?;
     push_stored(into, &loaded.book)
 }
 

@@ -1,31 +1,21 @@
 // The texts of reports.
 ghost use Rattle.std.specs.Prelude.{◌≡◌, ◌++◌, [], flat_map, length, IfOk, OnOk};
-ghost use Rattle.std.specs.Option.{option_map_or};
-ghost use Rattle.report_text.specs.Lines.{error_line, row_line, stats_line};
+ghost use Rattle.report_text.specs.Lines.{error_line, row_line};
 ghost use Rattle.report_text.specs.Report.{closing_lines, found_lines, loaded_lines, report_of};
 ghost use Rattle.report_text.specs.Printable.{IsPrintable, IsPrintableLoad};
 
+use crate::batch::push_batch;
 use crate::faults::{push_read_fault, push_refused, push_too_large};
 use crate::found::push_found;
-use crate::lines::{push_errors, push_row_count, push_stats};
+use crate::lines::{push_errors, push_row_count, push_stats_of};
 use crate::rejects::{push_reject, push_rejects, stored_count};
 use crate::rows::push_rows;
-use crate::{Loaded, Outcome, Stats};
+use crate::{Loaded, Outcome};
 use column_store::Table;
 use csv_sniffer::Sniffed;
 use csv_source::NoMemory;
 use reject_book::Reject;
 use std::alloc::Global;
-
-/// Appends the line of the stats, where there are some.
-fn push_stats_of(into: &mut Vec<u8>, stats: &Option<Stats>) -> Result<(), NoMemory>
-    ensures { OnOk result (into.new.items ≡ into.old.items ++ option_map_or stats_line stats.now []) }
-{
-    match stats {
-        Some(stats) => push_stats(into, stats),
-        None => Ok(()),
-    }
-}
 
 /// Appends what stands behind the lines on the rows.
 fn push_closing(into: &mut Vec<u8>, loaded: &Loaded, further: &[u8]) -> Result<(), NoMemory>
@@ -33,7 +23,7 @@ fn push_closing(into: &mut Vec<u8>, loaded: &Loaded, further: &[u8]) -> Result<(
 {
     push_row_count(into, loaded.table.rows())?;
     push_rejects(into, loaded)?;
-    push_errors(into, stored_count(loaded), loaded.book.all())?;
+    push_errors(into, stored_count(loaded) as u64, loaded.book.all())?;
     into.extend_from_slice(further)?;
     push_stats_of(into, &loaded.stats)
 }
@@ -78,6 +68,9 @@ fn push_report(into: &mut Vec<u8>, outcome: &Outcome) -> Result<(), NoMemory>
         Outcome::Sniffed(sniffed) => push_found(into, sniffed),
         Outcome::Loaded(loaded) => push_loaded(into, loaded),
         Outcome::Summary(loaded, taps) => push_summary(into, loaded, taps.as_slice()),
+        Outcome::Batch(sniffed, batch, store, stats) => {
+            push_batch(into, sniffed, batch, *store, stats)
+        }
         Outcome::FirstError(sniffed, reject) => push_first_error(into, sniffed, reject),
     }
 }
@@ -93,6 +86,7 @@ fn rows_room(table: &Table) -> usize {
 fn report_room(outcome: &Outcome) -> usize {
     match outcome {
         Outcome::Loaded(loaded) => rows_room(&loaded.table).saturating_add(4096),
+        Outcome::Batch(_, batch, ..) => rows_room(batch.table()).saturating_add(4096),
         _ => 4096,
     }
 }

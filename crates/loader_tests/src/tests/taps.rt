@@ -1,4 +1,8 @@
 //! Summaries with taps of the tests' own choice.
+ghost use Rattle.std.specs.Prelude.{◌≡◌};
+ghost use Rattle.column_taps.specs.declared.kind.TapKind.TheVariants.{Distinct};
+ghost use Rattle.column_taps.specs.Seen.{nothing_seen};
+
 use crate::status::hand_in;
 use crate::words_of;
 use column_taps::{CountTap, DistinctTap, RowTap, TapKind, Tapped};
@@ -13,6 +17,17 @@ use value_types::Cells;
 #[derive(Drop)]
 struct RowByRow {
     tap: DistinctTap,
+}
+
+impl RowByRow {
+    /// Has seen nothing.
+    fn new(alloc: Global, most: u64) -> RowByRow
+        ensures { ⟦<RowByRow as RowTap>⟧.seen result ≡ nothing_seen (Distinct most) }
+    {
+        RowByRow {
+            tap: DistinctTap::new(alloc, most),
+        }
+    }
 }
 
 impl RowTap for RowByRow {
@@ -46,11 +61,10 @@ fn summary<R: Threads + Sync>(
     let mut source = MemorySource::new(alloc);
     source.put("f.csv", input)?;
     let mut sink = MemorySink::with_room(alloc, 1000)?;
-    let tap = DistinctTap::new(alloc, most);
     let mut taps: Vec<Box<dyn RowTap>> = Vec::new(alloc);
     hand_in(&mut taps, Box::new(alloc, CountTap::new())?)?;
     hand_in(&mut taps, Box::new(alloc, DistinctTap::new(alloc, most))?)?;
-    hand_in(&mut taps, Box::new(alloc, RowByRow { tap })?)?;
+    hand_in(&mut taps, Box::new(alloc, RowByRow::new(alloc, most))?)?;
     run(rt, alloc, &words, &mut source, &mut sink, &OpenGate, taps);
     Ok(sink)
 }

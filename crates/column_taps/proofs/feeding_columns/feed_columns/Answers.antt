@@ -1,4 +1,4 @@
-use Rattle.std.proofs.Common.{ℕ, take, arith}
+use Rattle.std.proofs.Common.{take, arith}
 use Rattle.value_types.specs.Views.{view_rows}
 use Rattle.column_taps.specs.Course.{Course, course_after}
 use Rattle.column_taps.specs.Shown.{MayGoOn}

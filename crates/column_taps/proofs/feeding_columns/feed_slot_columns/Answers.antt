@@ -1,4 +1,4 @@
-use Rattle.std.proofs.Common.{◌≡◌, sym, arith}
+use Rattle.std.proofs.Common.{sym, arith}
 use Rattle.value_types.specs.Views.{view_rows}
 use Rattle.column_taps.proofs.CourseSteps.{over_stays, is_over, goes_on, goes_in_part}
 use Rattle.column_taps.proofs.ShownSteps.{many}

@@ -1,4 +1,4 @@
-use Rattle.std.proofs.Common.{ℕ, ◌*◌, ◌≤◌, length, arith}
+use Rattle.std.proofs.Common.{◌*◌, ◌≤◌, length, arith}
 use Rattle.column_taps.proofs.ColumnRows.{counts_by_column, counts_are_few}
 use Rattle.column_taps.proofs.count.CountTapRowTap.take_columns.Goals as goal
 

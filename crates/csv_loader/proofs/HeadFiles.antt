@@ -1,0 +1,21 @@
+-- A file that is read by its head and what comes behind it.
+use Rattle.std.proofs.Common.{◌≡◌, ℕ, ◌+◌, List, ◌++◌, length, Option, true, [], sym, ◌∙◌, arith}
+use Rattle.std.specs.Io.KnownBytes.{Consumes}
+use Rattle.csv_source.specs.Files.{Opens}
+use Rattle.window_load.specs.DataRead.{ComesWhole, ComesOver}
+use Rattle.window_load.specs.Window.{WindowView, no_bytes}
+use Rattle.csv_loader.specs.BatchLoad.{IsOpened, IsReadWhole, IsReadOver}
+use Rattle.csv_loader.proofs.HeadSteps.{comes_weaker, comes_from, over_from}
+use Rattle.csv_loader.proofs.InputLemmas.{input_whole, input_over}
+
+module _ (limit : ℕ) (held : Option (List (List ℕ × List ℕ))) (name : List ℕ) (before after : Option (List ℕ)) (head : WindowView) (fits : head.most ≡ limit)
+    (opened : IsOpened held name (λ first. Consumes first before head.kept)) where
+  pub whole_file : (P Q : List ℕ → Type 0) → ((came : List ℕ) → (head.ended ≡ true → came ≡ []) → P (head.kept ++ came) → Q (head.kept ++ came)) → ComesWhole before after head P → IsReadWhole limit held name after Q
+  whole_file P Q gives comes =
+      input_whole limit held name opened.0 after opened.1 Q (comes_from before after head opened.0 limit Q opened.2 fits (comes_weaker before after head P Q gives comes))
+
+  pub over_file : ComesOver before after head → IsReadOver limit held name after
+  over_file comes = input_over limit held name opened.0 after opened.1 (over_from before after head opened.0 limit opened.2 fits comes)
+
+pub over_opened : (limit : ℕ) (held : Option (List (List ℕ × List ℕ))) (name : List ℕ) (after : Option (List ℕ)) → IsOpened held name (λ first. ComesOver first after (no_bytes limit)) → IsReadOver limit held name after
+over_opened limit held name after opened = input_over limit held name opened.0 after opened.1 opened.2

@@ -1,0 +1,16 @@
+use Rattle.std.proofs.Common.{◌≡◌, ◌≤◌, ◌<◌, length}
+use Rattle.std.specs.Prelude.{option_map}
+use Rattle.csv_loader.specs.BatchLoad.{names_behind}
+use Rattle.csv_loader.proofs.FileSteps.{IsSoFar, LeavesNone}
+use Rattle.csv_loader.proofs.batching.load_files.Given as goal
+
+abbrev pub invariant-loop-behind : goal.invariant-loop-behind
+invariant-loop-behind g l =
+    IsSoFar l.options l.sniffed (g.S.Source.held l.fn.source) l.word (names_behind (option_map (λ text. text.now) l.behind)) l.number l.so_far
+    × (0 < l.number)
+    × LeavesNone (g.S.Source.held l.fn.source) (g.S.Source.left l.source)
+    × (g.S.Source.held l.source ≡ g.S.Source.held l.fn.source)
+    × (g.S.Source.faults l.fn.source ≤ g.S.Source.faults l.source)
+
+abbrev pub decreases-loop-behind : goal.decreases-loop-behind
+decreases-loop-behind g l = length (names_behind (option_map (λ text. text.now) l.behind))

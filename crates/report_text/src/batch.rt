@@ -1,0 +1,91 @@
+// The text of several loaded files.
+ghost use Rattle.std.specs.Prelude.{◌≡◌, ◌+◌, ◌++◌, IfOk, OnOk};
+ghost use Rattle.report_text.specs.BatchReport.{all_in, scan_lines, scans_from, stored_in};
+ghost use Rattle.report_text.specs.Printable.{IsPrintableBatch};
+ghost use Rattle.report_text.specs.Report.{batch_lines};
+
+use crate::Stats;
+use crate::found::push_found;
+use crate::lines::{push_errors, push_row_count, push_stats_of};
+use crate::rejects::{push_scan, push_stored};
+use crate::rows::push_rows;
+use csv_sniffer::Sniffed;
+use csv_source::NoMemory;
+use file_list::Batch;
+
+/// Appends the scan and the stored rejects of each file, in order.
+fn push_scans(into: &mut Vec<u8>, sniffed: &Sniffed, batch: &Batch) -> Result<(), NoMemory>
+    ensures { OnOk result (into.new.items ≡ into.old.items ++ scans_from sniffed.now 0 batch.now.files) }
+{
+    for index in 0..batch.len() {
+        push_scan(into, sniffed, index as u64, batch.file(index))?;
+        push_stored(into, batch.book(index))?;
+    }
+    Ok(())
+}
+
+/// Appends the scans, where rejects are stored.
+fn push_scans_if(
+    into: &mut Vec<u8>,
+    sniffed: &Sniffed,
+    store: bool,
+    batch: &Batch,
+) -> Result<(), NoMemory>
+    ensures { OnOk result (into.new.items ≡ into.old.items ++ scan_lines sniffed.now store batch.now.files) }
+{
+    if !store {
+        return Ok(());
+    }
+    push_scans(into, sniffed, batch)
+}
+
+/// A sum. What can't be counted counts as want of memory.
+fn sum_of(a: u64, b: u64) -> Result<u64, NoMemory>
+    ensures ok { IfOk result (λ sum. sum ≡ a + b) }
+{
+    a.checked_add(b).ok_or(NoMemory)
+}
+
+/// How many rejects are printed.
+fn stored_in(store: bool, batch: &Batch) -> Result<u64, NoMemory>
+    ensures { IfOk result (λ count. count ≡ stored_in store batch.now.files) }
+{
+    if !store {
+        return Ok(0);
+    }
+    let mut count = 0;
+    for index in 0..batch.len() {
+        count = sum_of(count, batch.book(index).len() as u64)?;
+    }
+    Ok(count)
+}
+
+/// How many rejects came.
+fn all_in(batch: &Batch) -> Result<u64, NoMemory>
+    ensures { IfOk result (λ count. count ≡ all_in batch.now.files) }
+{
+    let mut count = 0;
+    for index in 0..batch.len() {
+        count = sum_of(count, batch.book(index).all())?;
+    }
+    Ok(count)
+}
+
+/// Appends several loaded files with their rows, under what was found in the first one.
+pub(crate) fn push_batch(
+    into: &mut Vec<u8>,
+    sniffed: &Sniffed,
+    batch: &Batch,
+    store: bool,
+    stats: &Option<Stats>,
+) -> Result<(), NoMemory>
+    requires { IsPrintableBatch sniffed.now batch.now }
+    ensures { OnOk result (into.new.items ≡ into.old.items ++ batch_lines sniffed.now batch.now store stats.now) }
+{
+    push_found(into, sniffed)?;
+    push_rows(into, batch.table())?;
+    push_row_count(into, batch.table().rows())?;
+    push_scans_if(into, sniffed, store, batch)?;
+    push_errors(into, stored_in(store, batch)?, all_in(batch)?)?;
+    push_stats_of(into, stats)
+}
