@@ -16,7 +16,7 @@ struct Case {
 
 const FAULTY: &[u8] = b"column|1|BIGINT|b\nerror|0|0|4|64|67|2|a\\|b|CAST|Bo,three|No number\n";
 
-const CASES: [Case; 8] = [
+const CASES: [Case; 9] = [
     Case {
         words: &["load", "f.csv", "header=yes"],
         status: 1,
@@ -40,6 +40,12 @@ const CASES: [Case; 8] = [
         status: 1,
         written: b"",
         part: "'x' is no number",
+    },
+    Case {
+        words: &["batch", "a.csv,,b.csv"],
+        status: 1,
+        written: b"",
+        part: "batch takes 1 to 1000 names",
     },
     Case {
         words: &["load", "f.csv"],
