@@ -4,25 +4,8 @@ ghost use Rattle.std.specs.List.{prefix_len};
 ghost use lib.Lanes.{chunk, mask_l};
 ghost use Rattle.report_text.specs.Ordinary.{is_ordinary, is_spelled};
 
+use byte_classes::{equal_to, lanes_at};
 use std::simd::prelude::*;
-
-/// The 16 bytes from `at` on.
-#[inline(always)]
-fn lanes_at(bytes: &[u8], at: usize) -> u8x16
-    requires within { at + 16 ≤ length bytes.now }
-    ensures value { result ≡ chunk at 16 bytes.now }
-    ensures count { length result ≡ 16 }
-{
-    u8x16::from_slice(&bytes[at..at + 16])
-}
-
-/// Which of the lanes equal a byte, a bit for each.
-#[inline(always)]
-fn equal_to(lanes: u8x16, byte: u8) -> u64
-    ensures { result ≡ mask_l (map (λ x. x == byte) lanes) }
-{
-    lanes.simd_eq(u8x16::splat(byte)).to_bitmask()
-}
 
 /// Which of the lanes are below a byte, a bit for each.
 #[inline(always)]

@@ -1,4 +1,4 @@
-use Rattle.std.proofs.Common.{◌≡◌, ℕ, ◌+◌, ◌<◌, ◌≤◌, Bool, List, length, arith}
+use Rattle.std.proofs.Common.{ℕ, Bool, List, length, arith}
 use Rattle.std.proofs.lemmas.Nat.Bits.{bit_at-zero}
 use Rattle.byte_classes.specs.Masks.{HasPlaces}
 use Rattle.byte_classes.proofs.block.no_block.Goals as goal

@@ -6,7 +6,7 @@ use lib.Bits.{bit_or}
 use lib.Count.{count_trailing_zeros}
 use lib.Lanes.{mask_l}
 use Rattle.report_text.specs.Ordinary.{is_ordinary, is_spelled}
-use Rattle.report_text.proofs.RunTexts.{or_mask}
+use Rattle.byte_classes.proofs.LaneLaws.{or_mask}
 use Rattle.report_text.proofs.runs.lanes_run.Goals as goal
 
 -- the four comparisons together
