@@ -5,12 +5,12 @@ use Rattle.std.proofs.lemmas.List.{map-append}
 use Rattle.std.proofs.lemmas.List.Concat.{flat_map-append}
 use Rattle.std.proofs.lemmas.List.Elements.{All-nil, All-append}
 use Rattle.std.proofs.lemmas.List.Sums.{sum_by-cons, sum_by-append}
-use Rattle.row_fields.specs.Verdict.{Verdict}
 use Rattle.value_types.specs.Datum.{Datum}
 use Rattle.load_options.specs.declared.options.Options.{Options}
 use Rattle.csv_sniffer.specs.declared.found.Sniffed.{Sniffed}
 use Rattle.reject_book.specs.declared.reject.Reject.{Reject}
 use Rattle.reject_book.specs.Kept.{book_of}
+use Rattle.reject_book.specs.Verdict.{Verdict}
 use Rattle.file_list.specs.BatchView.{BatchView, with_file}
 use Rattle.file_list.specs.declared.batch.FileBook.{FileBook}
 use Rattle.report_text.specs.declared.outcome.Stats.{Stats}

@@ -11,7 +11,6 @@ use Rattle.std.proofs.lemmas.Str.{is_utf8-from_IsUtf8}
 use Rattle.byte_classes.specs.Dialect.{IsDialect}
 use Rattle.row_fields.specs.Fields.{fields, flaw}
 use Rattle.row_fields.specs.Laws.{read_field, read_row}
-use Rattle.row_fields.specs.Verdict.{Blank, Good}
 use Rattle.row_fields.specs.Written.{WrittenField, row_text, IsWrittenRow}
 use Rattle.row_fields.proofs.RowReading.{read_row-text, flaw-none}
 use Rattle.row_fields.proofs.TextReading.{written_row_read}
@@ -22,6 +21,7 @@ use Rattle.reject_book.specs.declared.reject.RowPlace.{RowPlace}
 use Rattle.reject_book.specs.declared.reject.Schema.{Schema}
 use Rattle.reject_book.specs.Fault.{line_size_fault, unquoted_fault, unicode_fault, missing_fault, too_many_fault, row_fault, cast_faults}
 use Rattle.reject_book.specs.Judging.{is_blank, cells_of_fields, good_unless, faulty_or, verdict_of}
+use Rattle.reject_book.specs.Verdict.{Blank, Good}
 use Rattle.csv_writer.specs.Writable.{IsReadableCell}
 use Rattle.csv_writer.specs.WrittenTable.{cell_field, row_line}
 use Rattle.csv_writer.proofs.TextFields.{row_utf8}

@@ -2,12 +2,12 @@
 use Rattle.std.specs.Prelude.{ℕ, ◌+◌, nat_lt, if◌then◌else◌, List, [], ◌∷◌, length, drop, map, sum, flat_map, Option, Some, None, unwrap_or}
 use Rattle.std.specs.Bool.{then_some}
 use Rattle.std.specs.List.{filter_map}
-use Rattle.row_fields.specs.Verdict.{Verdict}
 use Rattle.value_types.specs.Datum.{Datum}
 use Rattle.load_options.specs.declared.options.Options.{Options}
 use Rattle.csv_sniffer.specs.declared.found.Sniffed.{Sniffed}
 use Rattle.reject_book.specs.declared.reject.Reject.{Reject}
 use Rattle.reject_book.specs.Kept.{book_of}
+use Rattle.reject_book.specs.Verdict.{Verdict}
 use Rattle.file_list.specs.BatchView.{BatchView}
 use Rattle.file_list.specs.declared.batch.FileBook.{FileBook}
 use Rattle.report_text.specs.declared.outcome.Stats.{Stats}
