@@ -1,6 +1,7 @@
 // A large valid text that is made from a number.
 ghost use Rattle.std.specs.Prelude.{◌≡◌, ◌+◌, ◌<◌, ◌≤◌, ◌^◌, ◌%◌, ◌==◌, ◌++◌, ◌∷◌, [], codes, if◌then◌else◌, IfOk, OnOk};
 ghost use Rattle.value_types.specs.ValueText.{padded};
+ghost use Rattle.load_options.specs.declared.limits.TheConstants.{ROW_LIMIT};
 ghost use Rattle.report_text.specs.MadeText.{made_day, made_note, made_row, made_text, row_number};
 
 use crate::found::truth_text;
@@ -13,7 +14,7 @@ const ROW_ROOM: usize = 52;
 
 /// The number that a row is made of, of 32 bits.
 fn row_number(number: u32, row: u64) -> u64
-    requires within { row < 10_000_000 }
+    requires within { row < ROW_LIMIT }
     ensures value { result ≡ row_number number row }
     ensures within { result < 2 ^ 32 }
 {
@@ -72,7 +73,7 @@ fn push_note(into: &mut Vec<u8>, row: u64, x: u64) -> Result<(), NoMemory>
 
 /// Appends a row.
 fn push_row(into: &mut Vec<u8>, number: u32, row: u64) -> Result<(), NoMemory>
-    requires within { row < 10_000_000 }
+    requires within { row < ROW_LIMIT }
     ensures { OnOk result (into.new.items ≡ into.old.items ++ made_row number row) }
 {
     let x = row_number(number, row);
@@ -90,7 +91,7 @@ fn push_row(into: &mut Vec<u8>, number: u32, row: u64) -> Result<(), NoMemory>
 /// A valid text from a number: the header `id,ok,day,note` and this many rows. The notes have doubled quotes, and each
 /// sixteenth a line end.
 pub fn make_text(alloc: Global, number: u32, rows: u64) -> Result<Vec<u8>, NoMemory>
-    requires { rows ≤ 10_000_000 }
+    requires { rows ≤ ROW_LIMIT }
     ensures { IfOk result (λ text. text.items ≡ made_text number rows) }
 {
     let mut text = Vec::new(alloc);
