@@ -5,7 +5,8 @@ use Rattle.std.specs.Option.{option_and_then}
 use Rattle.value_types.specs.declared.types.ColumnType.{ColumnType}
 use Rattle.value_types.specs.Datum.{Datum}
 
--- the types of the columns, the rows of cells in order, and how many rows may be appended without memory
+-- the types of the columns, the rows of cells in order, and how many rows may be appended without memory; by rows all columns have one
+-- length, and appending is appending
 pub record TableView : Type 0 where
   pub types : List ColumnType
   pub rows : List (List Datum)

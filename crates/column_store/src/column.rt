@@ -94,8 +94,9 @@ impl Column {
         }
     }
 
-    /// Appends the cell that a text spells as the type, and answers whether it spells one. `roomy` says that there is room
-    /// for a cell more.
+    /// Appends the cell that a text spells as the type, and answers whether it spells one. `roomy` says that there is
+    /// room for a cell more. A value is cast and pushed in one match: no cell is made on the way, and no type is looked
+    /// up again.
     #[inline(always)]
     pub(crate) fn push_spelled(&mut self, text: &[u8], roomy: bool) -> Result<bool, NoMemory>
         requires { roomy ≡ true → length (cells_of self.old) < room_of self.old }

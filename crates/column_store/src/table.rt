@@ -81,6 +81,7 @@ impl Table {
         ensures ok { OnOk result (self.new ≡ record self.old { rows = self.old.rows ++ cells.now ∷ []; spare = self.old.spare - 1 }) }
         ensures err { OnErr result (self.new ≡ self.old) }
     {
+        // No machine holds so many rows.
         if self.rows() == usize::MAX {
             return Err(NoMemory);
         }
@@ -108,7 +109,8 @@ impl Table {
         self.last.push_reserved(cells);
     }
 
-    /// Appends copies of the rows of a table of the same types, or nothing where memory is wanting.
+    /// Appends copies of the rows of a table of the same types, or nothing where memory is wanting: room that was found
+    /// for some of them then stays, for later rows.
     pub fn append(&mut self, other: &Table) -> Result<(), NoMemory>
         requires { self.old.types ≡ other.now.types }
         ensures types { self.new.types ≡ self.old.types }

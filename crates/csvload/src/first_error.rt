@@ -43,7 +43,8 @@ fn behind(line: &str, fields: usize) -> Option<&str> {
     Some(rest)
 }
 
-/// The first error, by the last line of the report that ends with it.
+/// The first error, by the last line of the report that ends with it: the file isn't read again, and `run` answers a
+/// status alone.
 pub fn first_error(report: &[u8]) -> Option<FirstError<'_>> {
     let line = last_line(str::from_utf8(report).ok()?)?;
     if cut_field(line)?.0 != "error" {

@@ -65,7 +65,8 @@ fn push_part(into: &mut Vec<u8>, part: Part<'_>) -> Result<(), NoMemory>
     }
 }
 
-/// Appends a line: its name, the parts with a bar before each, and LF.
+/// Appends a line: its name, the parts with a bar before each, and LF. The parts stand on the caller's stack, so that a
+/// call reads as its definition does, and no line takes memory of its own.
 pub(crate) fn push_line(into: &mut Vec<u8>, name: &[u8], parts: &[Part<'_>]) -> Result<(), NoMemory>
     ensures { OnOk result (into.new.items ≡ into.old.items ++ line_of (name.now ∷ map part_text parts.now)) }
 {

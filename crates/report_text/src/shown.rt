@@ -60,7 +60,7 @@ fn push_stretch(into: &mut Vec<u8>, bytes: &[u8], at: usize) -> Result<usize, No
     Ok(end + 1)
 }
 
-/// Appends bytes as they are shown, runs of ordinary bytes whole.
+/// Appends bytes as they are shown, runs of ordinary bytes whole: few bytes of a report are spelled.
 pub(crate) fn push_shown(into: &mut Vec<u8>, bytes: &[u8]) -> Result<(), NoMemory>
     ensures { OnOk result (into.new.items ≡ into.old.items ++ shown bytes.now) }
 {

@@ -13,7 +13,7 @@ use reject_book::{Book, Reject};
 pub struct DataRead {
     pub end: State,
     pub table: Table,
-    /// The rejects, whose lines are counted from the data's start.
+    /// The rejects, whose lines are counted from the data's start: the load knows nothing of what stands before.
     pub book: Book,
     pub line_ends: u64,
     /// The bytes of the data, and their ranges.

@@ -19,7 +19,9 @@ use std::thread::Threads;
 
 /// Loads the data of an input, of which the head was read. They begin at a place of the head, and go on with what is left
 /// of the source. One group of ranges is held at a time, with what its last rows reach over, and read by at most `threads`
-/// workers. With `stop` the load ends with the first reject; the rest is then read and dropped.
+/// workers. With `stop` the load ends with the first reject; the rest is then read and dropped. The head comes by
+/// value: no byte of the sample is copied, a terminal or a pipe that ended isn't asked again, and with the answer the
+/// input is let go, before a report of it is rendered.
 pub fn window_load<R: Threads + Sync, S: Source, G: Gate>(
     rt: &R,
     alloc: Global,
