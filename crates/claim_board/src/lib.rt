@@ -10,6 +10,8 @@
 mod board;
 mod claim;
 mod drawer;
+#[cfg(test)]
+mod orders;
 mod rule;
 
 pub use board::Board;
