@@ -1,10 +1,11 @@
 #!/usr/bin/env python3
 """Refuses the program's n-th allocation, for n from 1 until a run asks for fewer, alone and with all later ones.
 
-refused_memory.py CSVLOAD [--most N]
+refused_memory.py CSVLOAD [--most N] [--workers]
 
 Each run has to end with the status and the text of a run with memory, or with status 6 and nothing written. A shared
-library that is built here (by gcc) and preloaded does the refusing; threads too ask it for memory.
+library that is built here (by gcc) and preloaded does the refusing; threads too ask it for memory. With --workers the
+loads alone are tried, with four of them.
 """
 
 import argparse
@@ -81,7 +82,8 @@ int posix_memalign(void **piece, size_t alignment, size_t size) {
 
 FAULTY = b"1,a\nx,b\n3,c\n4\n5,\"d\"\"e\"\n"
 
-# What each run is given besides the file: a load with rejects, a summary, what is found, a made file, a table as CSV.
+# What each run is given: a load with rejects, a load that ends with its first error, a summary, what is found, a made file,
+# a table as CSV, and two files.
 RUNS = [
     ["load", "FILE", "types=BIGINT,VARCHAR", "header=false", "store_rejects=true", "range_size=4"],
     ["load", "FILE", "types=BIGINT,VARCHAR", "header=false", "range_size=4"],
@@ -89,6 +91,7 @@ RUNS = [
     ["sniff", "FILE"],
     ["make", "7", "rows=20"],
     ["convert", "FILE", "ignore_errors=true", "range_size=4"],
+    ["batch", "FILE,FILE", "types=BIGINT,VARCHAR", "header=false", "store_rejects=true", "range_size=4"],
 ]
 
 
@@ -117,10 +120,17 @@ def refuse_each(program: str, words: list[str], library: str, later: bool, most:
     return whole, short
 
 
+def crews_of(command: str, workers: bool) -> list[list[str]]:
+    if command in ("make", "sniff"):
+        return [[]]
+    return [["threads=4"]] if workers else [["threads=1"], ["threads=4"]]
+
+
 def main() -> None:
     parser = argparse.ArgumentParser()
     parser.add_argument("csvload")
     parser.add_argument("--most", type=int, default=400, help="the largest n")
+    parser.add_argument("--workers", action="store_true", help="the loads alone, with four workers")
     options = parser.parse_args()
     with tempfile.TemporaryDirectory() as folder:
         source, library = pathlib.Path(folder) / "refuse.c", pathlib.Path(folder) / "refuse.so"
@@ -129,9 +139,9 @@ def main() -> None:
         file = pathlib.Path(folder) / "f.csv"
         file.write_bytes(FAULTY)
         print("runs with the whole text, and with status 6 and nothing written")
-        for words in RUNS:
-            for threads in [[]] if words[0] == "make" or words[0] == "sniff" else [["threads=1"], ["threads=4"]]:
-                given = [str(file) if word == "FILE" else word for word in words] + threads
+        for words in RUNS[:2] if options.workers else RUNS:
+            for threads in crews_of(words[0], options.workers):
+                given = [word.replace("FILE", str(file)) for word in words] + threads
                 for later in (False, True):
                     whole, short = refuse_each(options.csvload, given, str(library), later, options.most)
                     print(f"{whole:5} {short:5}  {'all later' if later else 'alone':9}  {' '.join(words + threads)}")
