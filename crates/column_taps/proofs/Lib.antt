@@ -9,4 +9,5 @@ pub mod LineSteps
 pub mod PairSteps
 pub mod Rooms
 pub mod ShownSteps
+pub mod TextSteps
 mod Worked

@@ -1,5 +1,6 @@
 pub mod Pairs
 pub mod KeptPairs
+pub mod TextColumns
 pub mod Seen
 pub mod SeenLines
 pub mod Taken

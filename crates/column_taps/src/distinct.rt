@@ -1,12 +1,16 @@
 // A tap of different texts.
-ghost use Rattle.std.specs.Prelude.{◌≡◌, ◌+◌, map, All};
-ghost use Rattle.value_types.specs.Views.{view_cells, row_at, HasRows};
+ghost use Rattle.std.specs.Prelude.{◌≡◌, ◌+◌, List, All};
+ghost use Rattle.value_types.specs.Datum.{Datum};
+ghost use Rattle.column_taps.specs.Pairs.{pairs_with};
+ghost use Rattle.column_taps.specs.KeptPairs.{pairs_in};
+ghost use Rattle.column_taps.specs.TextColumns.{HasTexts, pairs_with_texts};
 ghost use Rattle.column_taps.specs.declared.kind.TapKind.TheVariants.{Distinct};
 ghost use Rattle.column_taps.specs.Seen.{nothing_seen};
 ghost use Rattle.column_taps.specs.Taken.{TakenAs};
 
 use crate::lines::push_line;
 use crate::pairs::KeptPairs;
+use crate::text_columns::{TextColumn, text_columns};
 use crate::{RowTap, TapKind, Tapped};
 use csv_source::NoMemory;
 use itoa::Buffer;
@@ -17,6 +21,7 @@ use value_types::{Cells, ColumnView};
 /// line is `tap|distinct|COUNT`.
 #[derive(Drop)]
 pub struct DistinctTap {
+    alloc: Global,
     most: u64,
     pairs: KeptPairs,
 }
@@ -27,18 +32,20 @@ impl DistinctTap {
         ensures { ⟦<DistinctTap as RowTap>⟧.seen result ≡ nothing_seen (Distinct most) }
     {
         DistinctTap {
+            alloc,
             most,
             pairs: KeptPairs::new(alloc),
         }
     }
 
-    /// Takes a row of columns, counted from 0.
-    fn take_row_at(&mut self, columns: &[ColumnView<'_>], row: usize) -> Result<Tapped, NoMemory>
-        requires { All (HasRows (row + 1)) columns.now }
-        ensures { TakenAs (⟦<DistinctTap as RowTap>⟧.seen self.old) (row_at (map view_cells columns.now) row) result (⟦<DistinctTap as RowTap>⟧.seen self.new) }
+    /// Takes a row, counted from 0, of which these are the columns of texts.
+    fn take_texts(&mut self, columns: &[TextColumn<'_>], row: usize) -> Result<Tapped, NoMemory>
+        requires { All (HasTexts (row + 1)) columns.now }
+        ensures { (cells : List Datum) → pairs_with 0 (pairs_in self.old.pairs) cells ≡ pairs_with_texts row (pairs_in self.old.pairs) columns.now
+            → TakenAs (⟦<DistinctTap as RowTap>⟧.seen self.old) cells result (⟦<DistinctTap as RowTap>⟧.seen self.new) }
     {
         let before = self.pairs.len();
-        if self.pairs.add_row_at(columns, row).is_err() {
+        if self.pairs.add_texts(columns, row).is_err() {
             self.pairs.truncate(before);
             return Err(NoMemory);
         }
@@ -78,8 +85,12 @@ impl RowTap for DistinctTap {
         rows: usize,
         columns: &[ColumnView<'_>],
     ) -> Result<Option<usize>, NoMemory> {
+        let texts = text_columns(self.alloc, columns)?;
+        if texts.is_empty() && self.pairs.len() as u64 <= self.most {
+            return Ok(Some(rows));
+        }
         for row in 0..rows {
-            match self.take_row_at(columns, row) {
+            match self.take_texts(&texts, row) {
                 Ok(Tapped::Goes) => {}
                 Ok(Tapped::Over) => return Ok(Some(row)),
                 Err(error) => return Err(error),

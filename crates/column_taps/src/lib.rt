@@ -22,6 +22,7 @@ mod span;
 mod tap;
 #[cfg(test)]
 mod tests;
+mod text_columns;
 mod width;
 
 pub use count::CountTap;

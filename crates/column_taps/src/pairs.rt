@@ -1,14 +1,17 @@
 // Different texts of columns.
-ghost use Rattle.std.specs.Prelude.{◌≡◌, ◌+◌, [], length, map, take, All, OnOk, OnErr};
-ghost use Rattle.value_types.specs.Datum.{datum_of};
-ghost use Rattle.value_types.specs.Views.{view_cells, row_at, HasRows};
+ghost use Rattle.std.specs.Prelude.{◌≡◌, ◌+◌, [], length, take, All, OnOk, OnErr};
+ghost use Rattle.std.specs.List.{slice_index_or};
+ghost use Rattle.value_types.specs.Datum.{datum_of, null, text};
+ghost use Rattle.value_types.specs.Views.{marked};
 ghost use Rattle.column_taps.specs.Pairs.{pairs_and, pairs_and_cell, pairs_with};
 ghost use Rattle.column_taps.specs.KeptPairs.{pairs_in};
+ghost use Rattle.column_taps.specs.TextColumns.{HasTexts, pairs_with_texts};
 
+use crate::text_columns::TextColumn;
 use csv_source::NoMemory;
 use indexmap::IndexSet;
 use std::alloc::Global;
-use value_types::{Cell, Cells, ColumnView};
+use value_types::{Cell, Cells};
 
 /// A column, by its number from 0, and one of its texts.
 #[derive(PartialEq, Eq, Hash, Drop)]
@@ -91,18 +94,30 @@ impl KeptPairs {
         Ok(())
     }
 
-    /// Adds the pairs of a row of columns, counted from 0, or of its first cells.
-    pub(crate) fn add_row_at(
+    /// Adds the pair of a row's text, unless it is null.
+    fn add_text(&mut self, column: &TextColumn<'_>, row: usize) -> Result<(), NoMemory>
+        requires { HasTexts (row + 1) column.now }
+        ensures ok { OnOk result (pairs_in self.new ≡ pairs_and_cell column.now.place (pairs_in self.old) (slice_index_or (marked text column.now.nulls.now column.now.texts.now) row null)) }
+        ensures err { OnErr result (pairs_in self.new ≡ pairs_in self.old) }
+    {
+        if column.nulls[row] {
+            return Ok(());
+        }
+        self.add(column.place, column.texts.get(row))
+    }
+
+    /// Adds the pairs that a row, counted from 0, has in columns of texts, or in the first of them.
+    pub(crate) fn add_texts(
         &mut self,
-        columns: &[ColumnView<'_>],
+        columns: &[TextColumn<'_>],
         row: usize,
     ) -> Result<(), NoMemory>
-        requires { All (HasRows (row + 1)) columns.now }
-        ensures ok { OnOk result (pairs_in self.new ≡ pairs_with 0 (pairs_in self.old) (row_at (map view_cells columns.now) row)) }
+        requires { All (HasTexts (row + 1)) columns.now }
+        ensures ok { OnOk result (pairs_in self.new ≡ pairs_with_texts row (pairs_in self.old) columns.now) }
         ensures kept { take (length (pairs_in self.old)) (pairs_in self.new) ≡ pairs_in self.old }
     {
-        for column in 0..columns.len() {
-            self.add_cell(column, columns[column].get(row))?;
+        for column in columns {
+            self.add_text(column, row)?;
         }
         Ok(())
     }
