@@ -12,6 +12,7 @@ use Rattle.value_types.specs.OfType.{fit_all}
 use Rattle.load_options.specs.declared.options.Options.{Options}
 use Rattle.load_options.specs.FileNames.{file_names}
 use Rattle.csv_sniffer.specs.declared.found.Sniffed.{Sniffed}
+use Rattle.csv_sniffer.specs.Input.{found}
 use Rattle.range_scan.specs.Scanned.{HasColumns}
 use Rattle.file_list.specs.BatchView.{BatchView}
 use Rattle.value_types.specs.Spelled.{IsSpelledCell}
@@ -25,7 +26,7 @@ use Rattle.csv_loader.specs.Batch.{found_in_first, batch_of, batch_error, batch_
 use Rattle.csv_loader.specs.BatchLoad.{IsReadWhole, IsReadOver, IsBatchLoad, CanJoin, no_files, with_load, load_outcome, AreOpened, IsOutcomeOfFiles, LacksOne}
 use Rattle.csv_loader.specs.Input.{IsInput}
 use Rattle.csv_loader.specs.Loading.{IsLoad}
-use Rattle.csv_loader.specs.Reading.{found, schema_of}
+use Rattle.csv_loader.specs.Reading.{schema_of}
 use Rattle.csv_loader.proofs.Batches.{none_loaded, one_more, can_join, readings_print}
 use Rattle.csv_loader.proofs.Printing.{IsRowOf}
 

@@ -5,6 +5,7 @@ use Rattle.std.specs.List.{filter_map}
 use Rattle.value_types.specs.Datum.{Datum}
 use Rattle.load_options.specs.declared.options.Options.{Options}
 use Rattle.csv_sniffer.specs.declared.found.Sniffed.{Sniffed}
+use Rattle.csv_sniffer.specs.Input.{found, place_under}
 use Rattle.reject_book.specs.declared.reject.Reject.{Reject}
 use Rattle.reject_book.specs.Kept.{book_of}
 use Rattle.reject_book.specs.Verdict.{Verdict}
@@ -13,7 +14,7 @@ use Rattle.file_list.specs.declared.batch.FileBook.{FileBook}
 use Rattle.report_text.specs.declared.outcome.Stats.{Stats}
 use Rattle.report_text.specs.declared.outcome.Outcome.{Outcome}
 use Rattle.report_text.specs.declared.outcome.Outcome.TheVariants as outcomes
-use Rattle.csv_loader.specs.Reading.{found, place_under, file_reading, table_rows, faults, keep_of, ending_error, stats_of}
+use Rattle.csv_loader.specs.Reading.{file_reading, table_rows, faults, keep_of, ending_error, stats_of}
 
 -- ---- files that are all there
 

@@ -11,10 +11,11 @@ use Rattle.load_options.specs.declared.options.Choice.TheVariants.{Byte}
 use Rattle.load_options.specs.declared.options.Options.{Options}
 use Rattle.load_options.specs.Texts.{all_different, is_empty}
 use Rattle.csv_sniffer.specs.Sample.{sample_limit}
+use Rattle.csv_sniffer.specs.Input.{found}
 use Rattle.csv_writer.specs.Quoting.{needs_quotes}
 use Rattle.csv_writer.specs.Writable.{IsReadableCell}
 use Rattle.csv_writer.specs.WrittenTable.{names_line, row_line, written_table}
-use Rattle.csv_loader.specs.Reading.{found, reading, table_rows, faults}
+use Rattle.csv_loader.specs.Reading.{reading, table_rows, faults}
 
 -- ---- a written table as a text of the grammar
 

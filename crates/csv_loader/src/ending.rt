@@ -9,8 +9,7 @@ ghost use Rattle.csv_loader.specs.Ending.{IsEnding};
 ghost use Rattle.csv_loader.specs.Head.{IsHead};
 
 use crate::loading::{Load, LoadedData, load_data};
-use crate::sniffing::{Finding, sniff_input};
-use csv_sniffer::Sniffed;
+use csv_sniffer::{Finding, Sniffed, sniff_input};
 use csv_source::{Bytes, Gate, Source};
 use load_options::Options;
 use reject_book::Reject;

@@ -8,15 +8,15 @@ ghost use Rattle.range_scan.specs.Scanned.{HasColumns};
 ghost use Rattle.window_load.specs.DataRead.{ComesOver};
 ghost use Rattle.window_load.specs.Window.{no_bytes};
 ghost use Rattle.window_load.specs.declared.stop.LoadStop.TheVariants as stops;
+ghost use Rattle.csv_sniffer.specs.Input.{found};
 ghost use Rattle.csv_loader.specs.BatchLoad.{IsOpened, IsReadWhole, IsReadOver};
 ghost use Rattle.csv_loader.specs.Head.{IsHead};
 ghost use Rattle.csv_loader.specs.Loading.{IsLoad};
-ghost use Rattle.csv_loader.specs.Reading.{found, schema_of};
+ghost use Rattle.csv_loader.specs.Reading.{schema_of};
 
 use crate::head::read_head;
 use crate::loading::{Load, load_data};
-use crate::sniffing::{Finding, place_under, sniff_input};
-use csv_sniffer::Sniffed;
+use csv_sniffer::{Finding, Sniffed, place_under, sniff_input};
 use csv_source::{Gate, Source};
 use load_options::Options;
 use std::alloc::Global;

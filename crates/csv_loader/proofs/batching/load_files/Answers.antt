@@ -3,9 +3,9 @@ use Rattle.std.specs.Prelude.{option_map, Option}
 use Rattle.csv_source.specs.Causes.{Rose}
 use Rattle.csv_source.specs.Files.{Lacks}
 use Rattle.report_text.specs.Printable.{IsPrintable}
+use Rattle.csv_sniffer.specs.Input.{found}
 use Rattle.csv_loader.specs.BatchLoad.{IsReadWhole, IsReadOver, IsOutcomeOfFiles, names_behind, no_files, with_load}
 use Rattle.csv_loader.specs.Loading.{IsLoad}
-use Rattle.csv_loader.specs.Reading.{found}
 use Rattle.csv_loader.proofs.FileSteps.{IsSoFar, none_so_far, next_file, none_left, over_told, lacks_one, all_told, all_printable}
 use Rattle.csv_loader.proofs.batching.load_files.Goals as goal
 

@@ -1,9 +1,9 @@
 use Rattle.std.proofs.Common.{◌∙◌, ap, rules}
 use Rattle.window_load.specs.DataRead.{ComesOver}
 use Rattle.window_load.specs.Window.{no_bytes}
+use Rattle.csv_sniffer.specs.Input.{place_under}
 use Rattle.csv_loader.specs.BatchLoad.{IsOpened}
 use Rattle.csv_loader.specs.Loading.{IsLoad}
-use Rattle.csv_loader.specs.Reading.{place_under}
 use Rattle.csv_loader.proofs.Endings.{ok_weaker}
 use Rattle.csv_loader.proofs.HeadFiles.{whole_file, over_file, over_opened}
 use Rattle.csv_loader.proofs.files.load_later.Goals as goal

@@ -1,7 +1,7 @@
 use Rattle.std.proofs.Common.{refl}
 use Rattle.std.proofs.lemmas.List.{take_rest}
-use Rattle.csv_loader.proofs.Samples.{placed_in}
-use Rattle.csv_loader.proofs.sniffing.place_under.Goals as goal
+use Rattle.csv_sniffer.proofs.FoundPlaces.{placed_in}
+use Rattle.csv_sniffer.proofs.finding.place_under.Goals as goal
 
 pub returns-clause-ok : goal.returns-clause-ok
 returns-clause-ok c =
