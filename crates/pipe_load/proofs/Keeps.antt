@@ -1,0 +1,248 @@
+-- Each step of the queue keeps its rule.
+use Rattle.std.proofs.Common.{◌≡◌, ℕ, zero, suc, ◌+◌, ◌<◌, ◌≤◌, true, true≢false, eqb, cond, List, [], ◌∷◌, ◌++◌, length, map, drop, set, All, sym, refl, ap, ◌∙◌, subst, ⊎_elim, arith, append_assoc, length-append}
+use Rattle.std.proofs.lemmas.List.{map-append, append-nil}
+use Rattle.std.proofs.lemmas.List.Elements.{All-append, All-nil}
+use Rattle.std.proofs.lemmas.List.Sums.{sum_by-cons, sum_by-append}
+use Rattle.std.proofs.lemmas.Bool.Decides.{nat_tests}
+use mathlib.Core.Option.{some, some-injective, some-ne-none}
+use lib.ListN.{get_elem?}
+use Rattle.crossbeam_queue.specs.Fifo.{Pushes, Pops, Forks, Merges, Learns}
+use Rattle.crossbeam_queue.proofs.Lists.{at_set, at_snoc}
+use Rattle.pipe_load.specs.declared.pass_view.PassView.{PassView}
+use Rattle.pipe_load.specs.declared.window.Window.{Window}
+use Rattle.pipe_load.specs.declared.window.Item.{Item}
+use Rattle.pipe_load.specs.declared.window.Item.TheVariants as item
+use Rattle.pipe_load.specs.PassViews.{caller_view, stage_view, joined_view, after_put, after_take, IsNext, IsOneOf, IsSettled}
+use Rattle.pipe_load.specs.Rule.{times, end_marks, held, Fits, Ruled, IsRuled}
+use Rattle.pipe_load.proofs.Lists.{at_more, at_one_more, drop_first, drop_more, marks_more, times-append, once_more, sum_set, all_up, just}
+
+-- what all passes know is so
+abbrev pub AllFit : List Window → ℕ → ℕ → List PassView → Type 0
+AllFit put marks caller views = (id : ℕ) (v : PassView) → get_elem? views id ≡ some v → Fits put marks caller id v
+
+-- where one view is replaced, and what fits the others fits still
+fits_set : (F : ℕ → PassView → Type 0) (views : List PassView) (id : ℕ) (w : PassView) → F id w → ((j : ℕ) (u : PassView) → (j ≡ id → ⊥) → get_elem? views j ≡ some u → F j u)
+    → (j : ℕ) (u : PassView) → get_elem? (set views id w) j ≡ some u → F j u
+fits_set F views id w mine others j u e =
+    ⊎_elim (λ (t : (j ≡ id) × (w ≡ u)). subst (λ (y : ℕ × PassView). F y.0 y.1) (λ i. (sym t.0 i, t.1 i)) mine)
+    (λ (t : (j ≡ id → ⊥) × (get_elem? views j ≡ some u)). others j u t.0 t.1) (at_set views id j w u e)
+
+stage_fits : (put : List Window) (marks caller id : ℕ) → Fits put marks caller id stage_view
+stage_fits put marks caller id = record { puts = λ p. absurd (true≢false (sym p)); stage = λ _. refl; taken = All-nil _ }
+
+pub begins : IsRuled [] (caller_view ∷ [])
+begins = (
+  [],
+  0,
+  0,
+  0,
+  0,
+  record {
+    numbered = λ k w e. absurd (some-ne-none w (sym e));
+    few = omega arith;
+    few_marks = omega arith;
+    holds = refl;
+    once = λ k. grind (arith, nat_tests);
+    each = first;
+  },
+)
+  where
+    first : (id : ℕ) (v : PassView) → get_elem? (caller_view ∷ []) id ≡ some v → Fits [] 0 0 id v
+    first zero v e = subst (λ (u : PassView). Fits [] 0 0 0 u) (some-injective caller_view v e) record { puts = λ _. (refl, refl, refl); stage = λ p. absurd (true≢false p); taken = All-nil _ }
+    first (suc id) v e = absurd (some-ne-none v (sym e))
+
+-- a window is put
+window_put : (n id : ℕ) (v : PassView) (x : Window) → v.is_caller ≡ true → x.number ≡ length v.put → v.puts ≡ length v.put →
+    Pushes IsRuled n id v (item.Window x) (λ w. w ≡ after_put v (item.Window x))
+window_put n id v x may number none items views _ (put, taken, marks_left, marks, caller, r) at =
+    let w : PassView = after_put v (item.Window x) in
+    let mine : Fits put marks caller id v = r.each id v at in
+    let is : (id ≡ caller) × (v.put ≡ put) × (v.puts ≡ length put + marks) = mine.puts may in
+    let put_is : v.put ≡ put = is.1 in
+    let same_length : length v.put ≡ length put = ap length put_is in
+    let puts_is : v.puts ≡ length put + marks = is.2 in
+    let no_marks : marks_left ≡ 0 = omega (arith, r.few_marks, none, puts_is, same_length) in
+    let more : List Window = put ++ x ∷ [] in
+    let longer : length more ≡ length put + 1 = length-append put (x ∷ []) in
+    let number_is : x.number ≡ length put = number ∙ same_length in
+    let up : (u : Window) → IsOneOf put u → IsOneOf more u = λ u e. at_more put (x ∷ []) u.number u e in (
+      w,
+      (
+        more,
+        taken,
+        marks_left,
+        marks,
+        caller,
+        record {
+          numbered = λ k u e. ⊎_elim (λ t. r.numbered k u t) (λ t. ap (λ (y : Window). y.number) (sym t.1) ∙ number_is ∙ sym t.0) (at_one_more put x k u e);
+          few = omega (arith, r.few, longer);
+          few_marks = r.few_marks;
+          holds =
+              ap (λ l. l ++ item.Window x ∷ []) (r.holds ∙ ap (held put taken) no_marks ∙ append-nil (map item.Window (drop taken put)))
+              ∙ sym (map-append item.Window (drop taken put) (x ∷ []))
+              ∙ ap (map item.Window) (sym (drop_more put (x ∷ []) taken r.few))
+              ∙ sym (append-nil (map item.Window (drop taken more)))
+              ∙ ap (held more taken) (sym no_marks);
+          once = λ k. omega (arith, r.once k, sum_set (λ u. times k u.taken) views id v w at);
+          each = fits_set (Fits more marks caller) views id w
+              record {
+                puts = λ _. (is.0, ap (λ l. l ++ x ∷ []) put_is, omega (arith, puts_is, longer));
+                stage = λ p. absurd (true≢false (sym may ∙ p));
+                taken = all_up (IsOneOf put) (IsOneOf more) v.taken up mine.taken;
+              }
+              (λ j u other e. let f : Fits put marks caller j u = r.each j u e in record {
+                puts = λ p. absurd (other ((f.puts p).0 ∙ sym is.0));
+                stage = f.stage;
+                taken = all_up (IsOneOf put) (IsOneOf more) u.taken up f.taken;
+              });
+        },
+      ),
+      refl,
+    )
+
+-- an end mark is put
+mark_put : (n id : ℕ) (v : PassView) → v.is_caller ≡ true → Pushes IsRuled n id v item.EndMark (λ w. w ≡ after_put v item.EndMark)
+mark_put n id v may items views _ (put, taken, marks_left, marks, caller, r) at =
+    let w : PassView = after_put v item.EndMark in
+    let mine : Fits put marks caller id v = r.each id v at in
+    let is : (id ≡ caller) × (v.put ≡ put) × (v.puts ≡ length put + marks) = mine.puts may in
+    let puts_is : v.puts ≡ length put + marks = is.2 in (
+      w,
+      (
+        put,
+        taken,
+        suc marks_left,
+        suc marks,
+        caller,
+        record {
+          numbered = r.numbered;
+          few = r.few;
+          few_marks = omega (arith, r.few_marks);
+          holds =
+              ap (λ l. l ++ item.EndMark ∷ []) r.holds
+              ∙ append_assoc (map item.Window (drop taken put)) (end_marks marks_left) (item.EndMark ∷ [])
+              ∙ ap (λ ms. map item.Window (drop taken put) ++ ms) (marks_more marks_left);
+          once = λ k. omega (arith, r.once k, sum_set (λ u. times k u.taken) views id v w at);
+          each = fits_set (Fits put (suc marks) caller) views id w
+              record { puts = λ _. (is.0, is.1, omega (arith, puts_is)); stage = λ p. absurd (true≢false (sym may ∙ p)); taken = mine.taken }
+              (λ j u other e. let f : Fits put marks caller j u = r.each j u e in record { puts = λ p. absurd (other ((f.puts p).0 ∙ sym is.0)); stage = f.stage; taken = f.taken });
+        },
+      ),
+      refl,
+    )
+
+pub puts : (n id : ℕ) (v : PassView) (x : Item) → v.is_caller ≡ true → IsNext v x → Pushes IsRuled n id v x (λ w. w ≡ after_put v x)
+puts n id v (item.Window x) may next = window_put n id v x may next.0 next.1
+puts n id v item.EndMark may next = mark_put n id v may
+
+-- the first window is taken
+window_taken : (id : ℕ) (v : PassView) (x : Window) (rest : List Window) (items : List Item) (views : List PassView) (put : List Window) (taken marks_left marks caller : ℕ) →
+    drop taken put ≡ x ∷ rest → items ≡ map item.Window rest ++ end_marks marks_left → (its : List Item) → Ruled put taken marks_left marks caller its views → get_elem? views id ≡ some v →
+    Ruled put (suc taken) marks_left marks caller items (set views id (after_take v (item.Window x)))
+window_taken id v x rest items views put taken marks_left marks caller left is its r at =
+    let w : PassView = after_take v (item.Window x) in
+    let first = drop_first put taken x rest left in
+    let there : get_elem? put taken ≡ some x = first.0 in
+    let after : drop (suc taken) put ≡ rest = first.1 in
+    let below : taken < length put = first.2 in
+    let number : x.number ≡ taken = r.numbered taken x there in
+    let mine : Fits put marks caller id v = r.each id v at in
+    let it_is : IsOneOf put x = ap (get_elem? put) number ∙ there in
+    record {
+      numbered = r.numbered;
+      few = omega (arith, below);
+      few_marks = r.few_marks;
+      holds = is ∙ ap (λ l. map item.Window l ++ end_marks marks_left) (sym after);
+      once = λ k. let counted : cond {A = ℕ} (eqb x.number k) 1 0 ≡ cond (eqb taken k) 1 0 = ap (λ n. cond {A = ℕ} (eqb n k) 1 0) number in
+          omega (arith, r.once k, once_more k taken, counted, sum_set (λ u. times k u.taken) views id v w at, times-append k v.taken (x ∷ []), sum_by-cons (λ (u : Window). cond {A = ℕ} (eqb u.number k) 1 0) x []);
+      each = fits_set (Fits put marks caller) views id w
+          record { puts = mine.puts; stage = mine.stage; taken = All-append (IsOneOf put) v.taken (x ∷ []) mine.taken (just (IsOneOf put) x it_is) }
+          (λ j u other e. r.each j u e);
+    }
+
+-- an end mark is taken
+mark_taken : (id : ℕ) (v : PassView) (m : ℕ) (items : List Item) (views : List PassView) (put : List Window) (taken marks_left marks caller : ℕ) →
+    drop taken put ≡ [] → items ≡ end_marks m → m ≤ marks → (its : List Item) → Ruled put taken marks_left marks caller its views → get_elem? views id ≡ some v →
+    Ruled put taken m marks caller items (set views id v)
+mark_taken id v m items views put taken marks_left marks caller none is few its r at = record {
+  numbered = r.numbered;
+  few = r.few;
+  few_marks = few;
+  holds = is ∙ ap (λ l. map item.Window l ++ end_marks m) (sym none);
+  once = λ k. omega (arith, r.once k, sum_set (λ u. times k u.taken) views id v v at);
+  each = fits_set (Fits put marks caller) views id v (r.each id v at) (λ j u other e. r.each j u e);
+}
+
+-- whatever stands first
+first_taken : (id : ℕ) (v : PassView) (x : Item) (items : List Item) (views : List PassView) (put : List Window) (taken marks_left marks caller : ℕ) →
+    Ruled put taken marks_left marks caller (x ∷ items) views → get_elem? views id ≡ some v → (left : List Window) → drop taken put ≡ left → (m : ℕ) → marks_left ≡ m →
+    IsRuled items (set views id (after_take v x))
+first_taken id v x items views put taken marks_left marks caller r at (y ∷ rest) left m some_marks =
+    let all : x ∷ items ≡ item.Window y ∷ (map item.Window rest ++ end_marks marks_left) = r.holds ∙ ap (λ l. map item.Window l ++ end_marks marks_left) left in
+    let head : item.Window y ≡ x = cc in
+    let tail : items ≡ map item.Window rest ++ end_marks marks_left = cc in
+    subst (λ (z : Item). IsRuled items (set views id (after_take v z))) head
+    (put, suc taken, marks_left, marks, caller, window_taken id v y rest items views put taken marks_left marks caller left tail (x ∷ items) r at)
+first_taken id v x items views put taken marks_left marks caller r at [] left zero some_marks =
+    let all : x ∷ items ≡ [] = r.holds ∙ (λ i. map item.Window (left i) ++ end_marks (some_marks i)) in absurd (cc)
+first_taken id v x items views put taken marks_left marks caller r at [] left (suc m) some_marks =
+    let all : x ∷ items ≡ item.EndMark ∷ end_marks m = r.holds ∙ (λ i. map item.Window (left i) ++ end_marks (some_marks i)) in
+    let head : item.EndMark ≡ x = cc in
+    let tail : items ≡ end_marks m = cc in
+    let few : m ≤ marks = omega (arith, r.few_marks, some_marks) in
+    subst (λ (z : Item). IsRuled items (set views id (after_take v z))) head
+    (put, taken, m, marks, caller, mark_taken id v m items views put taken marks_left marks caller left tail few (x ∷ items) r at)
+
+pub takes : (id : ℕ) (v : PassView) → Pops IsRuled id v (λ x w. w ≡ after_take v x)
+takes id v x items views (put, taken, marks_left, marks, caller, r) at =
+    (after_take v x, first_taken id v x items views put taken marks_left marks caller r at (drop taken put) refl marks_left refl, refl)
+
+pub splits : (id : ℕ) (v : PassView) → Forks IsRuled id v v stage_view
+splits id v items views (put, taken, marks_left, marks, caller, r) at =
+    let vs : List PassView = set views id v in
+    let old : AllFit put marks caller vs = fits_set (Fits put marks caller) views id v (r.each id v at) (λ j u other e. r.each j u e) in (
+      put,
+      taken,
+      marks_left,
+      marks,
+      caller,
+      record {
+        numbered = r.numbered;
+        few = r.few;
+        few_marks = r.few_marks;
+        holds = r.holds;
+        once = λ k. omega (arith, r.once k, sum_set (λ u. times k u.taken) views id v v at, sum_by-append (λ (u : PassView). times k u.taken) vs (stage_view ∷ []));
+        each = λ j u e. ⊎_elim (λ t. old j u t) (λ t. subst (λ (z : PassView). Fits put marks caller j z) t (stage_fits put marks caller j)) (at_snoc vs stage_view u j e);
+      },
+    )
+
+pub joins : (id : ℕ) (v : PassView) (other : ℕ) (u : PassView) → v.is_caller ≡ true → Merges IsRuled id v other u (joined_view v u) stage_view
+joins id v other u may items views (put, taken, marks_left, marks, caller, r) at apart there =
+    let w : PassView = joined_view v u in
+    let vs : List PassView = set views id w in
+    let was : get_elem? views other ≡ some u = ⊎_elim (λ t. absurd (apart t.0)) (λ t. t.1) (at_set views id other w u there) in
+    let mine : Fits put marks caller id v = r.each id v at in
+    let theirs : Fits put marks caller other u = r.each other u was in (
+      put,
+      taken,
+      marks_left,
+      marks,
+      caller,
+      record {
+        numbered = r.numbered;
+        few = r.few;
+        few_marks = r.few_marks;
+        holds = r.holds;
+        once = λ k. omega (arith, r.once k, sum_set (λ y. times k y.taken) views id v w at, sum_set (λ y. times k y.taken) vs other u stage_view there, times-append k v.taken u.taken);
+        each = fits_set (Fits put marks caller) vs other stage_view (stage_fits put marks caller other)
+            (λ j y _ e. fits_set (Fits put marks caller) views id w
+            record { puts = mine.puts; stage = mine.stage; taken = All-append (IsOneOf put) v.taken u.taken mine.taken theirs.taken }
+            (λ k z _ f. r.each k z f) j y e);
+      },
+    )
+
+pub settles : (id : ℕ) (v : PassView) → v.is_caller ≡ true → Learns IsRuled id v (λ items. IsSettled v)
+settles id v may items views (put, taken, marks_left, marks, caller, r) at =
+    let mine : Fits put marks caller id v = r.each id v at in
+    let put_is : v.put ≡ put = (mine.puts may).1 in
+    subst (λ (l : List Window). All (IsOneOf l) v.taken) (sym put_is) mine.taken

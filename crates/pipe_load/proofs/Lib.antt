@@ -1,0 +1,13 @@
+pub mod Keeps
+pub mod Lists
+pub mod ReadingLaws
+pub mod CuttingLaws
+pub mod FeedingLaws
+pub mod ScanningLaws
+pub mod WindowParts
+pub mod JoiningLaws
+pub mod WindowRanges
+pub mod SlotsLaws
+pub mod AnswerLaws
+pub mod CountLaws
+pub mod LoadLaws

@@ -1,0 +1,185 @@
+-- All windows are joined, one after another.
+use Rattle.std.proofs.Common.{◌≡◌, ℕ, zero, suc, ◌+◌, ◌-◌, ◌*◌, ◌/◌, ◌<◌, ◌≤◌, ◌^◌, min, List, [], ◌∷◌, ◌++◌, length, map, drop, get_or, All, refl, sym, ap, ◌∙◌, subst, arith, length-append, length-take, length-drop}
+use Rattle.std.specs.List.{range_with_len}
+use Rattle.std.proofs.Math.Nat.{mul-le-mul_left, mul-le-mul_right, le_of_mul-le-mul_right}
+use Rattle.std.proofs.lemmas.List.FromFn.{length-map-range_with_len}
+use mathlib.Core.Option.{some, some-injective, some-ne-none}
+use lib.ListN.{get_elem?}
+use Rattle.crossbeam_queue.proofs.Lists.{at_index}
+use Rattle.pipe_load.specs.Feeding.{AreNumbered}
+use Rattle.quote_automaton.specs.declared.state.State.TheVariants.{RowStart}
+use Rattle.range_guess.specs.Cut.{range_count}
+use Rattle.range_scan.specs.declared.context.Context.{Context}
+use Rattle.range_scan.specs.Part.{Part, part_of, no_part}
+use Rattle.range_scan.specs.Scanned.{judge_in}
+use Rattle.range_scan.proofs.RangeLaws.{count_covers, no_part_at}
+use Rattle.value_types.specs.Datum.{Datum}
+use Rattle.reject_book.specs.declared.reject.Reject.{Reject}
+use Rattle.reject_book.specs.Kept.{book_of}
+use Rattle.pipe_load.specs.declared.joining.Joined.{Joined}
+use Rattle.pipe_load.specs.declared.layout.Layout.{Layout}
+use Rattle.pipe_load.specs.declared.window.Window.{Window}
+use Rattle.pipe_load.specs.Joining.{IsBegun, AddsRanges, IsJoinedTo, front_part, stretch_len}
+use Rattle.pipe_load.specs.Loading.{data_read}
+use Rattle.window_load.specs.DataRead.{IsDataRead}
+use Rattle.pipe_load.specs.Layout.{IsLayout, stride, want, window_start, window_of, windows_of, stretch_of, layout_of}
+use Rattle.pipe_load.specs.PassViews.{IsOneOf}
+use Rattle.pipe_load.proofs.CountLaws.{count_less, count_at_most}
+use Rattle.pipe_load.proofs.CuttingLaws.{some_stride}
+use Rattle.pipe_load.proofs.WindowRanges.{lead_at}
+
+-- an entry of a list of what a function gives
+at_map : {A : Type 0} (f : ℕ → A) (a n k : ℕ) (x : A) → get_elem? (map f (range_with_len a n)) k ≡ some x → x ≡ f (a + k)
+at_map f a zero k x e = absurd (some-ne-none x (sym e))
+at_map f a (suc n) zero x e = sym (some-injective (f a) x e) ∙ ap f (let s : a ≡ a + zero = omega arith in s)
+at_map f a (suc n) (suc k) x e = at_map f (a + 1) n k x e ∙ ap f (let s : a + 1 + k ≡ a + suc k = omega arith in s)
+
+-- a window of a list of windows of the data is the one of its number
+pub one_is : (l : Layout) (text : List ℕ) (made : List Window) (count k : ℕ) (w : Window) → made ≡ windows_of l text count → IsOneOf made w → w.number ≡ k → w ≡ window_of l text k
+one_is l text made count k w is one number =
+    at_map (window_of l text) 0 count w.number w (subst (λ ws. get_elem? ws w.number ≡ some w) is one) ∙ ap (window_of l text) (let s : 0 + w.number ≡ k = omega (arith, number) in s)
+
+-- each window begins before the end of the data
+pub begins_before : (s count k n : ℕ) → k < count → (0 < count → (count - 1) * s < n) → k * s < n
+begins_before s count k n lt begun =
+    let some_windows : 0 < count = omega (arith, lt) in
+    let last : k ≤ count - 1 = omega (arith, lt) in
+    omega (arith, mul-le-mul_right s last, begun some_windows)
+
+module _ (context : Context) (l : Layout) (layout : IsLayout l) (text : List ℕ) where
+  abbrev r : ℕ
+  r = l.ranges
+
+  abbrev z : ℕ
+  z = l.range_size
+
+  abbrev all : ℕ
+  all = range_count (length text) z
+
+  -- how many ranges window k has
+  ranges_of : (k : ℕ) → k * stride l < length text → 0 < l.reach → k * r + stretch_len l (window_of l text k) ≡ min ((k + 1) * r) all
+  ranges_of k inside far =
+      let start : ℕ = window_start l k in
+      let size : ℕ = length ((window_of l text k).bytes) in
+      let size_is : size ≡ min (min k 1 + stride l + l.reach) (length text - start) =
+      (let count : start + want l k - start ≡ min k 1 + stride l + l.reach = omega arith in omega (arith, count, length-take (start + want l k - start) (drop start text), length-drop start text)) in
+      let lead : start + min k 1 ≡ k * stride l = lead_at k (stride l) (some_stride l layout) in
+      let covered : (stretch_of l (window_of l text k)).to - (stretch_of l (window_of l text k)).from ≡ min (r * z) (length text - k * r * z) = omega (arith, size_is, lead, inside, far) in
+      let inside_ranges : k * r * z ≤ length text = omega (arith, inside) in
+      let few : k * r * z ≤ all * z = omega (arith, inside_ranges, count_covers (length text) z layout.some) in
+      let below : k * r ≤ all = le_of_mul-le-mul_right few layout.some in
+      let count : stretch_len l (window_of l text k) ≡ min r (all - k * r) =
+      ap (λ n. range_count n z) covered ∙ count_at_most (length text - k * r * z) z r layout.some ∙ ap (min r) (count_less (length text) z (k * r) layout.some inside_ranges) in
+      let next : (k + 1) * r ≡ k * r + r = omega arith in
+      omega (arith, count, below, next)
+
+  before_window : (k : ℕ) → k * stride l < length text → min (k * r) all ≡ k * r
+  before_window k inside =
+      let few : k * r * z ≤ all * z = omega (arith, inside, count_covers (length text) z layout.some) in
+      let below : k * r ≤ all = le_of_mul-le-mul_right few layout.some in omega (arith, below)
+
+  -- one window more
+  pub next_window : (k : ℕ) (w : Window) (old new : Joined) → w ≡ window_of l text k → k * stride l < length text → l.reach ≡ context.schema.max_line_size + 1 →
+      AddsRanges context l w (stretch_len l w) old new → IsJoinedTo context text l.data_start z (min (k * r) all) old → IsJoinedTo context text l.data_start z (min ((k + 1) * r) all) new
+  next_window k w old new is inside reach adds h =
+      let far : 0 < l.reach = omega (arith, reach) in
+      let before : IsJoinedTo context text l.data_start z (k * r) old = subst (λ j. IsJoinedTo context text l.data_start z j old) (before_window k inside) h in
+      let there : k * r + stretch_len l w ≡ min ((k + 1) * r) all = ap (λ (x : Window). k * r + stretch_len l x) is ∙ ranges_of k inside far in
+      subst (λ j. IsJoinedTo context text l.data_start z j new) there (adds.joins text k is inside reach before)
+
+  -- no window yet
+  pub first_window : (new : Joined) → IsBegun context new → IsJoinedTo context text l.data_start z (min (0 * r) all) new
+  first_window new h =
+      let none : min (0 * r) all ≡ 0 = omega arith in
+      let empty : 0 ≡ min (0 * z) (length text) = omega arith in
+      let part : no_part RowStart ≡ front_part context text l.data_start z 0 =
+      no_part_at (judge_in context) context.dialect text l.data_start 0 RowStart ∙ ap (λ to. part_of (judge_in context) context.dialect text l.data_start 0 to RowStart) empty in
+      subst (λ j. IsJoinedTo context text l.data_start z j new) (sym none) record {
+        end = h.end ∙ ap (λ (p : Part (List Datum) Reject). p.end) part;
+        types = h.types;
+        rows = h.rows ∙ ap (λ (p : Part (List Datum) Reject). p.cells) part;
+        book = h.book ∙ ap (λ (p : Part (List Datum) Reject). book_of context.keep p.faults) part;
+        line_ends = h.line_ends ∙ ap (λ (p : Part (List Datum) Reject). p.line_ends) part;
+        ranges = h.ranges;
+        bytes = h.bytes ∙ empty;
+        rescans = h.rescans;
+        rescanned = h.rescanned;
+      }
+
+  -- all windows
+  pub last_window : (count : ℕ) (new : Joined) → length text ≤ count * stride l → IsJoinedTo context text l.data_start z (min (count * r) all) new → IsJoinedTo context text l.data_start z all new
+  last_window count new covered h =
+      let at_most : all ≤ count * r = count_within_all in
+      subst (λ j. IsJoinedTo context text l.data_start z j new) (let e : min (count * r) all ≡ all = omega (arith, at_most) in e) h
+    where
+      count_within_all : all ≤ count * r
+      count_within_all = let text_is : length text ≡ min (count * r * z) (length text) = omega (arith, covered) in
+          let e : all ≡ min (count * r) all = ap (λ n. range_count n z) text_is ∙ count_at_most (length text) z (count * r) layout.some in omega (arith, e)
+
+  -- all ranges are the data
+  pub all_read : (joined : Joined) → IsJoinedTo context text l.data_start z all joined → IsDataRead context text l.data_start z (data_read joined)
+  all_read joined h =
+      let covers : length text ≤ all * z = count_covers (length text) z layout.some in
+      let front : min (all * z) (length text) ≡ length text = omega (arith, covers) in
+      let part : front_part context text l.data_start z all ≡ part_of (judge_in context) context.dialect text l.data_start 0 (length text) RowStart =
+      ap (λ to. part_of (judge_in context) context.dialect text l.data_start 0 to RowStart) front in
+      record {
+        end = h.end ∙ ap (λ (p : Part (List Datum) Reject). p.end) part;
+        types = h.types;
+        rows = h.rows ∙ ap (λ (p : Part (List Datum) Reject). p.cells) part;
+        book = h.book ∙ ap (λ (p : Part (List Datum) Reject). book_of context.keep p.faults) part;
+        line_ends = h.line_ends ∙ ap (λ (p : Part (List Datum) Reject). p.line_ends) part;
+        bytes = h.bytes ∙ front;
+        ranges = h.ranges;
+        rescanned_ranges = h.rescans;
+        scanned = ap (λ n. length text + n) h.rescanned;
+      }
+
+-- an entry behind the first ones
+pub at_behind : {A : Type 0} (xs ys : List A) (k : ℕ) (d : A) → get_or (xs ++ ys) (length xs + k) d ≡ get_or ys k d
+at_behind [] ys k d = let e : zero + k ≡ k = omega arith in ap (λ n. get_or ys n d) e
+at_behind (x ∷ xs) ys k d = let e : suc (length xs) + k ≡ suc (length xs + k) = omega arith in ap (λ n. get_or (x ∷ (xs ++ ys)) n d) e ∙ at_behind xs ys k d
+
+-- windows that wait have the numbers behind those that were put, and are among those that were made
+pub number_behind : (put waiting : List Window) → AreNumbered (put ++ waiting) → (k : ℕ) (d : Window) → k < length waiting → (get_or waiting k d).number ≡ length put + k
+number_behind put waiting h k d lt =
+    ap (λ (w : Window). w.number) (sym (at_behind put waiting k d)) ∙ h (length put + k) d (let e : length put + k < length (put ++ waiting) = omega (arith, lt, length-append put waiting) in e)
+
+pub waiting_is_made : (put waiting : List Window) → AreNumbered (put ++ waiting) → All (IsOneOf (put ++ waiting)) waiting
+waiting_is_made put waiting h k d lt =
+    let w : Window = get_or waiting k d in
+    let number : w.number ≡ length put + k = number_behind put waiting h k d lt in
+    let within : length put + k < length (put ++ waiting) = omega (arith, lt, length-append put waiting) in
+    let here : w ≡ get_or (put ++ waiting) (length put + k) w = sym (at_behind put waiting k w ∙ same_default waiting k d lt) in
+    ap (get_elem? (put ++ waiting)) number ∙ at_index (put ++ waiting) (length put + k) w within here
+  where
+    same_default : (xs : List Window) (k : ℕ) (d : Window) → k < length xs → get_or xs k (get_or xs k d) ≡ get_or xs k d
+    same_default [] k d lt = absurd (let never : ⊥ = omega (arith, lt) in never)
+    same_default (x ∷ xs) zero d lt = refl
+    same_default (x ∷ xs) (suc k) d lt = same_default xs k d (let under : k < length xs = omega (arith, lt) in under)
+
+-- the layout of a load within its limits
+pub layout_lies : (data_start size line : ℕ) → 0 < size → size ≤ 67_108_864 → line ≤ 4_194_304 → data_start ≤ 2 ^ 32 → IsLayout (layout_of data_start size line)
+layout_lies data_start size line positive small rows start =
+    let q : ℕ = line / (64 * size) in
+    let divides : 64 * size * q ≤ line = omega (arith, positive) in
+    let least : q * 1 ≤ q * size = mul-le-mul_left q positive in
+    record {
+      some = positive;
+      ranges = omega arith;
+      start = start;
+      size = small;
+      few = omega (arith, divides, least, rows);
+      short = omega (arith, divides, rows, small);
+      far = omega (arith, rows);
+    }
+
+-- windows of the data are numbered
+pub numbered_windows : (l : Layout) (text : List ℕ) (n : ℕ) → AreNumbered (windows_of l text n)
+numbered_windows l text n k d lt =
+    ap (λ (w : Window). w.number) (get_or-map-range (window_of l text) 0 n k d (let e : k < n = omega (arith, lt, length-map-range_with_len (window_of l text) 0 n) in e)) ∙ (let s : 0 + k ≡ k = omega arith in s)
+  where
+    get_or-map-range : {A : Type 0} (f : ℕ → A) (a n k : ℕ) (d : A) → k < n → get_or (map f (range_with_len a n)) k d ≡ f (a + k)
+    get_or-map-range f a zero k d lt = absurd (let never : ⊥ = omega (arith, lt) in never)
+    get_or-map-range f a (suc n) zero d lt = ap f (let s : a ≡ a + zero = omega arith in s)
+    get_or-map-range f a (suc n) (suc k) d lt = get_or-map-range f (a + 1) n k d (let e : k < n = omega (arith, lt) in e) ∙ ap f (let s : a + 1 + k ≡ a + suc k = omega arith in s)

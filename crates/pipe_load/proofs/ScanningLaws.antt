@@ -1,0 +1,55 @@
+-- What a stage keeps, window by window and range by range.
+use Rattle.std.proofs.Common.{◌≡◌, ℕ, ◌+◌, List, [], ◌∷◌, ◌++◌, length, map, All, sym, ap, ◌∙◌, subst, arith}
+use Rattle.std.proofs.lemmas.List.{map-append}
+use Rattle.std.proofs.lemmas.List.Elements.{All-append, All-nil}
+use Rattle.std.proofs.lemmas.List.FromFn.{map-range_with_len_more, length-map-range_with_len}
+use Rattle.quote_automaton.specs.declared.state.State.{State}
+use Rattle.range_scan.specs.declared.context.Context.{Context}
+use Rattle.range_scan.specs.declared.span.Span.{Span}
+use Rattle.range_scan.specs.Scanned.{Scanned, scanned}
+use Rattle.crossbeam_queue.specs.Passes.{view}
+use Rattle.pipe_load.specs.declared.layout.Layout.{Layout}
+use Rattle.pipe_load.specs.declared.layout.Stretch.{Stretch}
+use Rattle.pipe_load.specs.declared.scanner.Kept.{Kept}
+use Rattle.pipe_load.specs.declared.stage.Stage.{Stage}
+use Rattle.pipe_load.specs.declared.window.Window.{Window}
+use Rattle.pipe_load.specs.Layout.{stretch_of, span_of}
+use Rattle.pipe_load.specs.PassViews.{stage_view}
+use Rattle.pipe_load.specs.Scanning.{opening_of, guessed_part, guessed_parts, HasParts, HasScanned}
+use Rattle.pipe_load.proofs.Lists.{just}
+
+module _ (context : Context) (l : Layout) (w : Window) where
+  pub one_more_part : (n : ℕ) (parts new : List Scanned) (part : Scanned) (bytes : List ℕ) (s : Stretch) (span : Span) (opened : State) →
+      parts ≡ guessed_parts context l w n → new ≡ parts ++ part ∷ [] → part ≡ scanned context bytes s.base span opened →
+      bytes ≡ w.bytes → s ≡ stretch_of l w → span ≡ span_of s n → opened ≡ opening_of context.dialect bytes span →
+      new ≡ guessed_parts context l w (n + 1)
+  one_more_part n parts new part bytes s span opened parts_are new_is part_is bytes_are s_is span_is opened_is =
+      let at : span ≡ span_of (stretch_of l w) n = span_is ∙ ap (λ (x : Stretch). span_of x n) s_is in
+      let in_state : opened ≡ opening_of context.dialect w.bytes (span_of (stretch_of l w) n) = opened_is ∙ (λ i. opening_of context.dialect (bytes_are i) (at i)) in
+      let is : part ≡ guessed_part context l w n = part_is ∙ (λ i. scanned context (bytes_are i) ((s_is i).base) (at i) (in_state i)) in
+      new_is ∙ (λ i. parts_are i ++ is i ∷ []) ∙ sym (map-range_with_len_more (guessed_part context l w) 0 n n (let e : 0 + n ≡ n = omega arith in e))
+
+  -- so many parts as there are
+  pub all_parts : (n : ℕ) (parts : List Scanned) → parts ≡ guessed_parts context l w n → parts ≡ guessed_parts context l w (length parts)
+  all_parts n parts is = is ∙ ap (guessed_parts context l w) (sym (ap length is ∙ length-map-range_with_len (guessed_part context l w) 0 n))
+
+-- one more entry of which a fact is known
+pub all_more : {A : Type 0} (P : A → Type 0) (xs ys : List A) (x : A) → ys ≡ xs ++ x ∷ [] → All P xs → P x → All P ys
+all_more P xs ys x e h p = subst (All P) (sym e) (All-append P xs (x ∷ []) h (just P x p))
+
+-- a stage that took nothing
+pub fresh_stage : (context : Context) (l : Layout) (stage : Stage) → stage.kept.items ≡ [] → view stage.pass ≡ stage_view → HasScanned context l stage
+fresh_stage context l stage none is = record {
+  all = ap (map (λ (k : Kept). k.window)) none ∙ sym (ap (λ v. v.taken) is);
+  parts = subst (All (HasParts context l)) (sym none) (All-nil _);
+}
+
+-- a stage that took one more window and keeps it
+pub kept_more : (context : Context) (l : Layout) (old new : Stage) (kept : Kept) → HasScanned context l old → new.kept.items ≡ old.kept.items ++ kept ∷ [] →
+    (view new.pass).taken ≡ (view old.pass).taken ++ kept.window ∷ [] → HasParts context l kept → HasScanned context l new
+kept_more context l old new kept h is taken parts = record {
+  all =
+      ap (map (λ (k : Kept). k.window)) is ∙ map-append (λ (k : Kept). k.window) old.kept.items (kept ∷ [])
+      ∙ ap (λ ws. ws ++ kept.window ∷ []) h.all ∙ sym taken;
+  parts = all_more (HasParts context l) old.kept.items new.kept.items kept is h.parts parts;
+}

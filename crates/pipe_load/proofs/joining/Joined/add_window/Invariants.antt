@@ -1,0 +1,9 @@
+use Rattle.pipe_load.specs.Joining.{AddsRanges}
+use Rattle.pipe_load.specs.Joining.{GuessedFrom}
+use Rattle.pipe_load.proofs.joining.Joined.add_window.Given as goal
+
+abbrev pub invariant-loop-range : goal.invariant-loop-range
+invariant-loop-range g l = record {
+  joined : AddsRanges l.scanner.context.now l.scanner.layout l.window l.range l.fn.self l.self;
+  parts : GuessedFrom l.scanner.context.now l.scanner.layout l.window l.range l.parts.items;
+}

@@ -1,0 +1,78 @@
+use Rattle.std.proofs.Common.{◌≡◌, ◌++◌, List, All, length, min, ◌*◌, refl, sym, ap, ◌∙◌, subst, arith, length-append, false}
+use Rattle.crossbeam_queue.specs.Passes.{view}
+use Rattle.range_guess.specs.Cut.{range_count}
+use Rattle.pipe_load.specs.declared.stage.Stage.{Stage}
+use Rattle.pipe_load.specs.declared.window.Window.{Window}
+use Rattle.pipe_load.specs.Feeding.{made_of}
+use Rattle.pipe_load.specs.Joining.{AddsRanges, IsJoinedTo, stretch_len}
+use Rattle.pipe_load.specs.Slots.{AreSlots, HasPut}
+use Rattle.pipe_load.proofs.LoadLaws.{one_is, begins_before, next_window, first_window, last_window, number_behind, waiting_is_made}
+use Rattle.pipe_load.proofs.order.join_windows.Goals as goal
+
+pub place_stages-requires-clause-few : goal.place_stages-requires-clause-few
+place_stages-requires-clause-few g c =
+    let put : List Window = (view c.args.feed.pass).put in
+    let h : AreSlots c.args.scanner.now.context.now c.args.scanner.now.layout (made_of c.args.feed) c.in_ok-slots.slots = c.in_ok-slots.ensures _ _ (made_of c.args.feed) c.requires.made in
+    let many = h.many in let made = c.requires.made in
+    omega (arith, many, made, length-append put c.args.feed.waiting.items, c.in_ok-slots.slots.slots.ok.0)
+
+pub place_stages-requires-clause-all : goal.place_stages-requires-clause-all
+place_stages-requires-clause-all g c =
+    let long : All (λ (s : Stage). s.short ≡ false) c.args.stages.items = subst (All (λ (s : Stage). s.short ≡ false)) c.as_slice.ensures.value (c.any_short.ensures c.if-any_short.false) in
+    (c.args.scanner.now.context.now, c.args.scanner.now.layout, λ k d lt. c.requires.all k d lt (long k d lt))
+
+pub place_waiting-requires : goal.place_waiting-requires
+place_waiting-requires g c k d lt =
+    let put : List Window = (view c.args.feed.pass).put in
+    let number = number_behind put c.args.feed.waiting.items c.requires.numbered k d lt in
+    let h : AreSlots c.args.scanner.now.context.now c.args.scanner.now.layout (made_of c.args.feed) c.in_ok-slots.slots = c.in_ok-slots.ensures _ _ (made_of c.args.feed) c.requires.made in
+    let many = h.many in let made = c.requires.made in let same = c.place_stages.ensures.same in
+    omega (arith, lt, number, many, made, same, length-append put c.args.feed.waiting.items, c.in_ok-slots.slots.slots.ok.0)
+
+pub loop-number-init : goal.loop-number-init
+loop-number-init g c =
+    let context = c.args.scanner.now.context.now in
+    let l = c.args.scanner.now.layout in
+    let made : List Window = made_of c.args.feed in
+    let put : List Window = (view c.args.feed.pass).put in
+    let h : AreSlots context l made c.in_ok-slots.slots = c.in_ok-slots.ensures context l made c.requires.made in
+    let many = h.many in let count = c.requires.made in let a = c.place_stages.ensures.same in let b = c.place_waiting.ensures.same in
+    let long : All (λ (s : Stage). s.short ≡ false) c.args.stages.items = subst (All (λ (s : Stage). s.short ≡ false)) c.as_slice.ensures.value (c.any_short.ensures c.if-any_short.false) in
+    let staged : AreSlots context l made c.place_stages.new.self =
+    c.place_stages.ensures.slots context l made c.args.feed.waiting.items refl (λ k d lt. c.requires.all k d lt (long k d lt)) h in
+    let begun = c.in_ok-joined.ensures in
+    record {
+      pass = c.place_stages.ensures.pass;
+      many = omega (arith, many, count, a, b, c.in_ok-slots.slots.slots.ok.0);
+      slots = c.place_waiting.ensures.slots context l made (waiting_is_made put c.args.feed.waiting.items c.requires.numbered) staged;
+      types = begun.types;
+      keep = ap (λ b. b.keep) begun.book;
+      joined = λ text is covered begins. first_window context l c.args.scanner.now.lies text c.in_ok-joined.joined begun;
+    }
+
+pub loop-number-preserved : goal.loop-number-preserved
+loop-number-preserved g c =
+    let context = c.args.scanner.now.context.now in
+    let l = c.args.scanner.now.layout in
+    let made : List Window = made_of c.args.feed in
+    let inv = c.loop-number.invariant in
+    let put_is = inv.pass.put_is in
+    let got = c.fetch-kept.ensures.value context l made c.args.feed.waiting.items (ap (λ (ws : List Window). ws ++ c.args.feed.waiting.items) (sym put_is)) inv.slots in
+    let adds : AddsRanges context l c.fetch-kept.result.window (stretch_len l c.fetch-kept.result.window) c.loop-number.joined c.add_window.new.self = c.in_ok-add_window.ensures in
+    record {
+      pass = subst (λ (ws : List Window). HasPut c.args.windows.now ws c.fetch-kept.new.pass) put_is c.fetch-kept.ensures.pass;
+      many = c.fetch-kept.ensures.same ∙ inv.many;
+      slots = got.0;
+      types = adds.types;
+      keep = adds.keep;
+      joined = λ text is covered begins.
+          next_window context l c.args.scanner.now.lies text c.loop-number.number c.fetch-kept.result.window c.loop-number.joined c.add_window.new.self
+          (one_is l text made c.args.count c.loop-number.number c.fetch-kept.result.window is got.1.one got.2)
+          (begins_before (l.ranges * l.range_size) c.args.count c.loop-number.number (length text) c.loop-number-test.true begins) c.requires.reach adds (inv.joined text is covered begins);
+    }
+
+pub returns : goal.returns
+returns g c = λ text is covered begins.
+    let last : c.loop-number.number ≡ c.args.count = let t = c.loop-number-test.false in omega (arith, t) in
+    last_window c.args.scanner.now.context.now c.args.scanner.now.layout c.args.scanner.now.lies text c.args.count c.loop-number.joined covered
+    (subst (λ n. IsJoinedTo c.args.scanner.now.context.now text c.args.scanner.now.layout.data_start c.args.scanner.now.layout.range_size (min (n * c.args.scanner.now.layout.ranges) (range_count (length text) c.args.scanner.now.layout.range_size)) c.loop-number.joined) last (c.loop-number.invariant.joined text is covered begins))

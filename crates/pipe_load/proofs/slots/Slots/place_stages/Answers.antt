@@ -1,0 +1,30 @@
+use Rattle.std.proofs.Common.{List, [], ◌∷◌, ◌++◌, All, ◌∙◌, sym, ap, subst}
+use Rattle.pipe_load.specs.declared.window.Window.{Window}
+use Rattle.pipe_load.specs.Scanning.{IsStage, HasScanned}
+use Rattle.pipe_load.specs.Slots.{HasPut}
+use Rattle.pipe_load.proofs.SlotsLaws.{all_but_last, of_last}
+use Rattle.pipe_load.proofs.slots.Slots.place_stages.Goals as goal
+
+pub loop-stage-preserved : goal.loop-stage-preserved
+loop-stage-preserved c =
+    let inv = c.loop-stage.invariant in
+    let items = c.in-Some.ensures.items in
+    let rest = c.pop.new.self.items in
+    let one = c.in-Some.stage in
+    let stages : All (IsStage c.args.windows.now) (rest ++ one ∷ []) = subst (All (IsStage c.args.windows.now)) items inv.stages in
+    let scanned : All (HasScanned inv.all.0 inv.all.1) (rest ++ one ∷ []) = subst (All (HasScanned inv.all.0 inv.all.1)) items inv.all.2 in
+    record {
+      pass = subst (λ (ws : List Window). HasPut c.args.windows.now ws c.place_stage.new.pass) inv.pass.put_is c.place_stage.ensures.pass;
+      many = c.place_stage.ensures.same ∙ inv.many;
+      stages = all_but_last (IsStage c.args.windows.now) rest one stages;
+      all = (inv.all.0, inv.all.1, all_but_last (HasScanned inv.all.0 inv.all.1) rest one scanned);
+      slots = λ context plan made more is all before.
+          let h = inv.slots context plan made more is all before in
+          let t : All (HasScanned context plan) (rest ++ one ∷ []) = subst (All (HasScanned context plan)) items h.0 in (
+            all_but_last (HasScanned context plan) rest one t,
+            c.place_stage.ensures.slots context plan made more (is ∙ ap (λ (ws : List Window). ws ++ more) (sym inv.pass.put_is)) (of_last (HasScanned context plan) rest one t) h.1,
+          );
+    }
+
+pub returns-clause-slots : goal.returns-clause-slots
+returns-clause-slots c = λ context plan made more is all before. (c.loop-stage.invariant.slots context plan made more is all before).1

@@ -1,0 +1,24 @@
+use Rattle.std.proofs.Common.{◌<◌, All, ◌∙◌, subst, vec_len, arith, ◌∷◌}
+use Rattle.pipe_load.specs.declared.window.Window.{Window}
+use Rattle.pipe_load.specs.PassViews.{IsOneOf}
+use Rattle.pipe_load.proofs.SlotsLaws.{all_but_first, of_first, no_parts}
+use Rattle.pipe_load.proofs.slots.Slots.place_waiting.Goals as goal
+
+pub loop-window-preserved : goal.loop-window-preserved
+loop-window-preserved c =
+    let inv = c.loop-window.invariant in
+    let items = c.in-Some.ensures.items in
+    let Within : Window → Type 0 = λ w. w.number < vec_len c.loop-window.self.slots in
+    record {
+      many = c.place.ensures.same ∙ inv.many;
+      within = λ k d lt. let h = all_but_first Within c.in-Some.window c.pop_front.new.self.items (subst (All Within) items inv.within) k d lt in let e = c.place.ensures.same in omega (arith, h, e);
+      slots = λ context plan made all before.
+          let h = inv.slots context plan made all before in
+          let t : All (IsOneOf made) (c.in-Some.window ∷ c.pop_front.new.self.items) = subst (All (IsOneOf made)) items h.0 in (
+            all_but_first (IsOneOf made) c.in-Some.window c.pop_front.new.self.items t,
+            c.place.ensures.slots context plan made h.1 record { one = of_first (IsOneOf made) c.in-Some.window c.pop_front.new.self.items t; parts = no_parts context plan _ c.new.ensures.items },
+          );
+    }
+
+pub returns-clause-slots : goal.returns-clause-slots
+returns-clause-slots c = λ context plan made all before. (c.loop-window.invariant.slots context plan made all before).1

@@ -1,0 +1,28 @@
+-- What the caller has of the queue while it reads.
+use Rattle.std.specs.Prelude.{◌≡◌, ℕ, ◌<◌, true, List, [], ◌++◌, length, slice_index_or}
+use Rattle.crossbeam_queue.specs.Passes.{Pass, view, IsPassOf}
+use Rattle.pipe_load.specs.declared.feeding.Feed.{Feed}
+use Rattle.pipe_load.specs.declared.window.Window.{Window}
+use Rattle.pipe_load.specs.declared.windows.Windows.{Windows}
+use Rattle.pipe_load.specs.declared.pass_view.PassView.{PassView}
+use Rattle.pipe_load.specs.declared.window.Item.{Item}
+
+-- each window stands at the place of its number
+abbrev pub AreNumbered : List Window → Type 0
+AreNumbered ws = (k : ℕ) (d : Window) → k < length ws → (slice_index_or ws k d).number ≡ k
+
+-- the caller's pass, which took nothing
+pub record IsCallers (windows : Windows) (pass : Pass Item PassView) : Type 0 where
+  pub of : IsPassOf windows.line pass
+  pub caller : (view pass).is_caller ≡ true
+  pub taken : (view pass).taken ≡ []
+
+-- the windows that were put and those that wait
+abbrev pub made_of : Feed → List Window
+made_of feed = (view feed.pass).put ++ feed.waiting.items
+
+-- no end mark is put, and the windows that were put and those that wait are numbered
+pub record IsFeed (windows : Windows) (feed : Feed) : Type 0 where
+  pub pass : IsCallers windows feed.pass
+  pub puts : (view feed.pass).puts ≡ length (view feed.pass).put
+  pub numbered : AreNumbered (made_of feed)

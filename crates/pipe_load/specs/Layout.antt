@@ -1,0 +1,79 @@
+-- How windows lie in the data, and ranges in a window.
+use Rattle.std.specs.Prelude.{ℕ, ◌+◌, ◌-◌, ◌*◌, ◌/◌, ◌<◌, ◌≤◌, ◌^◌, min, List, length, map, slice_range}
+use Rattle.std.specs.List.{range_with_len}
+use Rattle.range_guess.specs.Cut.{group_len, range_count, range_bounds}
+use Rattle.range_scan.specs.declared.span.Span.{Span}
+use Rattle.pipe_load.specs.declared.layout.Layout.{Layout}
+use Rattle.pipe_load.specs.declared.layout.Stretch.{Stretch}
+use Rattle.pipe_load.specs.declared.window.Window.{Window}
+
+-- windows cover the least number of whole groups that have more bytes than a row may have, and reach one byte further than a row may past them
+abbrev pub layout_of : ℕ → ℕ → ℕ → Layout
+layout_of data_start range_size most_line = record {
+  data_start = data_start;
+  range_size = range_size;
+  ranges = (most_line / (group_len * range_size) + 1) * group_len;
+  reach = most_line + 1;
+}
+
+-- a layout of some ranges, whose numbers are small
+pub record IsLayout (l : Layout) : Type 0 where
+  pub some : 0 < l.range_size
+  pub ranges : 0 < l.ranges
+  pub start : l.data_start ≤ 2 ^ 32
+  pub size : l.range_size ≤ 67_108_864
+  pub few : l.ranges ≤ 2 ^ 23
+  pub short : l.ranges * l.range_size ≤ 2 ^ 33
+  pub far : l.reach ≤ 2 ^ 23
+
+-- how many bytes the ranges of a window have
+abbrev pub stride : Layout → ℕ
+stride l = l.ranges * l.range_size
+
+-- where the bytes of a window begin in the data: one before its ranges, unless they begin the data
+abbrev pub window_start : Layout → ℕ → ℕ
+window_start l k = k * stride l - 1
+
+-- how many bytes a window has where the data go on far enough
+abbrev pub want : Layout → ℕ → ℕ
+want l k = min k 1 + stride l + l.reach
+
+-- window k of the data, and the first n windows
+abbrev pub window_of : Layout → List ℕ → ℕ → Window
+window_of l text k = record { number = k; bytes = slice_range text (window_start l k) (window_start l k + want l k) }
+
+abbrev pub windows_of : Layout → List ℕ → ℕ → List Window
+windows_of l text n = map (window_of l text) (range_with_len 0 n)
+
+-- how many windows some data have
+abbrev pub window_count : Layout → ℕ → ℕ
+window_count l text_length = range_count text_length (stride l)
+
+-- the ranges of a window, and where they lie in it
+abbrev pub stretch_of : Layout → Window → Stretch
+stretch_of l w = let from = min (length w.bytes) (min w.number 1) in record {
+  base = l.data_start + window_start l w.number;
+  first_range = w.number * l.ranges;
+  from = from;
+  to = from + min (stride l) (length w.bytes - from);
+  range_size = l.range_size;
+}
+
+abbrev pub stretch_count : Stretch → ℕ
+stretch_count s = range_count (s.to - s.from) s.range_size
+
+-- range i of a stretch
+abbrev pub span_of : Stretch → ℕ → Span
+span_of s i = record {
+  number = s.first_range + i;
+  from = s.from + (range_bounds (s.to - s.from) s.range_size i).0;
+  to = s.from + (range_bounds (s.to - s.from) s.range_size i).1;
+}
+
+-- a stretch lies in the bytes of a window, and its numbers are small
+pub record IsStretchOf (s : Stretch) (bytes : List ℕ) : Type 0 where
+  pub some : 0 < s.range_size
+  pub ordered : s.from ≤ s.to
+  pub within : s.to ≤ length bytes
+  pub room : s.base + length bytes < 2 ^ 62
+  pub numbers : s.first_range < 2 ^ 61

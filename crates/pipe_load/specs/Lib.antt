@@ -1,0 +1,9 @@
+pub mod PassViews
+pub mod Rule
+pub mod Layout
+pub mod Reading
+pub mod Feeding
+pub mod Scanning
+pub mod Joining
+pub mod Slots
+pub mod Loading

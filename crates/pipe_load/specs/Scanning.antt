@@ -1,0 +1,43 @@
+-- How the ranges of windows are scanned first, and what a stage keeps.
+use Rattle.std.specs.Prelude.{◌≡◌, ℕ, false, ◌==◌, if◌then◌else◌, List, length, map, slice_range, All}
+use Rattle.std.specs.List.{range_with_len}
+use Rattle.byte_classes.specs.Dialect.{Marks}
+use Rattle.byte_classes.specs.Places.{byte_before}
+use Rattle.quote_automaton.specs.declared.state.State.{State}
+use Rattle.quote_automaton.specs.declared.state.State.TheVariants.{RowStart}
+use Rattle.range_guess.specs.Guess.{guess}
+use Rattle.range_scan.specs.declared.context.Context.{Context}
+use Rattle.range_scan.specs.declared.span.Span.{Span}
+use Rattle.range_scan.specs.Scanned.{Scanned, scanned}
+use Rattle.crossbeam_queue.specs.Passes.{view, IsPassOf}
+use Rattle.pipe_load.specs.declared.layout.Layout.{Layout}
+use Rattle.pipe_load.specs.declared.scanner.Kept.{Kept}
+use Rattle.pipe_load.specs.declared.stage.Stage.{Stage}
+use Rattle.pipe_load.specs.declared.window.Window.{Window}
+use Rattle.pipe_load.specs.declared.windows.Windows.{Windows}
+use Rattle.pipe_load.specs.Layout.{stretch_of, span_of}
+
+-- the state in which a range is scanned first: the data's first range opens where a row begins, any other in its guess
+abbrev pub opening_of : Marks → List ℕ → Span → State
+opening_of d bytes span = if span.number == 0 then RowStart else guess d (slice_range bytes span.from span.to) (byte_before bytes span.from)
+
+-- range i of a window, scanned in that state, and the first n ranges
+abbrev pub guessed_part : Context → Layout → Window → ℕ → Scanned
+guessed_part context l w i = let s = stretch_of l w in scanned context w.bytes s.base (span_of s i) (opening_of context.dialect w.bytes (span_of s i))
+
+abbrev pub guessed_parts : Context → Layout → Window → ℕ → List Scanned
+guessed_parts context l w n = map (guessed_part context l w) (range_with_len 0 n)
+
+-- a window stands with the parts of its first ranges
+pub record HasParts (context : Context) (l : Layout) (kept : Kept) : Type 0 where
+  pub is : kept.parts.items ≡ guessed_parts context l kept.window (length kept.parts.items)
+
+-- a stage has a pass of its own
+pub record IsStage (windows : Windows) (stage : Stage) : Type 0 where
+  pub of : IsPassOf windows.line stage.pass
+  pub other : (view stage.pass).is_caller ≡ false
+
+-- a stage keeps all windows that it took, with their parts
+pub record HasScanned (context : Context) (l : Layout) (stage : Stage) : Type 0 where
+  pub all : map (λ (k : Kept). k.window) stage.kept.items ≡ (view stage.pass).taken
+  pub parts : All (HasParts context l) stage.kept.items
