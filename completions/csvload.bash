@@ -27,7 +27,7 @@ _csvload() {
                 *) [ "${COMP_WORDS[COMP_CWORD - 1]}" = = ] && name=${COMP_WORDS[COMP_CWORD - 2]} || name= ;;
             esac
             case $name in
-                header | all_varchar | allow_quoted_nulls | null_padding | ignore_errors | store_rejects | stats)
+                header | all_varchar | allow_quoted_nulls | null_padding | ignore_errors | store_rejects | pipeline | stats)
                     COMPREPLY=($(compgen -W 'true false' -- "$value"))
                     ;;
                 types)
@@ -36,7 +36,7 @@ _csvload() {
                 '')
                     COMPREPLY=($(compgen -W 'delim= quote= escape= comment= header= skip= nullstr= allow_quoted_nulls=
                         all_varchar= names= types= sample_size= null_padding= ignore_errors= store_rejects=
-                        rejects_limit= max_line_size= max_input= threads= range_size= stats=' -- "$word"))
+                        rejects_limit= max_line_size= max_input= threads= range_size= pipeline= stats=' -- "$word"))
                     ;;
             esac
             [[ $word == *=* && -n $name && $word != = ]] && COMPREPLY=("${COMPREPLY[@]/#/$name=}")

@@ -18,6 +18,7 @@ use csv_source::{Gate, ReadStop, Source};
 use load_options::Options;
 use report_text::Outcome;
 use std::alloc::Global;
+use std::sync::Wait;
 use std::thread::Threads;
 use window_load::{LoadStop, sum_of};
 
@@ -47,7 +48,7 @@ fn outcome_of(options: &Options, sniffed: Sniffed, load: BatchLoad) -> Outcome
 }
 
 /// Loads the files of a word one after another, each under what is found in the first one.
-fn load_files<R: Threads + Sync, S: Source, G: Gate>(
+fn load_files<R: Threads + Wait + Sync, S: Source + Send, G: Gate>(
     rt: &R,
     alloc: Global,
     options: &Options,
@@ -81,7 +82,7 @@ fn load_files<R: Threads + Sync, S: Source, G: Gate>(
 }
 
 /// What the files of a word come to, if they can be read. Of each no more is read than one byte over its limit.
-pub fn outcome_of_files<R: Threads + Sync, S: Source, G: Gate>(
+pub fn outcome_of_files<R: Threads + Wait + Sync, S: Source + Send, G: Gate>(
     rt: &R,
     alloc: Global,
     options: &Options,

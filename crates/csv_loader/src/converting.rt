@@ -17,12 +17,13 @@ use csv_writer::write_table;
 use load_options::Options;
 use report_text::Outcome;
 use std::alloc::Global;
+use std::sync::Wait;
 use std::thread::Threads;
 use window_load::{InputWindow, LoadStop};
 
 /// The answer of `convert`: the good rows as they are written under their names, or the first error where it ends the
 /// load.
-pub fn converted_answer<R: Threads + Sync, S: Source, G: Gate>(
+pub fn converted_answer<R: Threads + Wait + Sync, S: Source + Send, G: Gate>(
     rt: &R,
     alloc: Global,
     options: &Options,

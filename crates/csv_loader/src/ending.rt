@@ -15,6 +15,7 @@ use load_options::Options;
 use reject_book::Reject;
 use report_text::Loaded;
 use std::alloc::Global;
+use std::sync::Wait;
 use std::thread::Threads;
 use window_load::{InputWindow, LoadStop};
 
@@ -26,7 +27,7 @@ pub enum Ending {
 }
 
 /// Loads an input, of which the head was read.
-pub fn load_input<R: Threads + Sync, S: Source, G: Gate>(
+pub fn load_input<R: Threads + Wait + Sync, S: Source + Send, G: Gate>(
     rt: &R,
     alloc: Global,
     options: &Options,

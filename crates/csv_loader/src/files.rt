@@ -20,6 +20,7 @@ use csv_sniffer::{Finding, Sniffed, place_under, sniff_input};
 use csv_source::{Gate, Source};
 use load_options::Options;
 use std::alloc::Global;
+use std::sync::Wait;
 use std::thread::Threads;
 use window_load::{InputWindow, LoadStop};
 
@@ -54,7 +55,7 @@ fn open_head<S: Source>(
 }
 
 /// Loads the first file: its data under what is found in it.
-pub fn load_first<R: Threads + Sync, S: Source, G: Gate>(
+pub fn load_first<R: Threads + Wait + Sync, S: Source + Send, G: Gate>(
     rt: &R,
     alloc: Global,
     options: &Options,
@@ -83,7 +84,7 @@ pub fn load_first<R: Threads + Sync, S: Source, G: Gate>(
 }
 
 /// Loads a later file of a number: its data under what was found in the first one.
-pub fn load_later<R: Threads + Sync, S: Source, G: Gate>(
+pub fn load_later<R: Threads + Wait + Sync, S: Source + Send, G: Gate>(
     rt: &R,
     alloc: Global,
     options: &Options,

@@ -1,5 +1,6 @@
 use Rattle.std.proofs.Common.{◌≡◌, ◌<◌, ◌+◌, ℕ, List, ap, sym, ◌∙◌, subst, arith}
 use Rattle.range_scan.specs.declared.span.Span.{Span}
+use Rattle.range_scan.specs.Scanned.{Scanned}
 use Rattle.pipe_load.specs.declared.layout.Stretch.{Stretch}
 use Rattle.pipe_load.specs.Layout.{stretch_of, stretch_count, span_of}
 use Rattle.pipe_load.specs.Scanning.{guessed_part}
@@ -28,7 +29,7 @@ loop-range-preserved g c =
     (λ i. (c.bytes.ensures i, (value i).base, (c.span_of-span.ensures ∙ ap (λ (s : Stretch). span_of s n) value) i)) c.in_ok-add_range.ensures in
     record {
       joined = adds_more context l w n c.args.self.now c.loop-range.self c.add_range.new.self c.args.scanner.now.lies below inv.joined adds;
-      parts = subst (GuessedFrom context l w (n + 1)) (sym c.pop_front-part.ensures.rest) (parts_next (guessed_part context l w) n _ inv.parts);
+      parts = subst (GuessedFrom context l w (n + 1)) (sym {A = List Scanned} c.pop_front-part.ensures.rest) (parts_next (guessed_part context l w) n _ inv.parts);
     }
 
 pub returns : goal.returns
