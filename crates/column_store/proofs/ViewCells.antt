@@ -1,5 +1,5 @@
 -- Columns that are seen by slices.
-use Rattle.std.proofs.Common.{◌≡◌, ℕ, suc, ◌+◌, ◌<◌, ◌≤◌, Bool, true, false, List, [], ◌∷◌, ◌++◌, Option, Some, None, length, map, take, drop, get_or, inl, inr, refl, sym, ap, ◌∙◌, subst, arith}
+use Rattle.std.proofs.Common.{◌≡◌, ℕ, suc, ◌+◌, ◌<◌, ◌≤◌, Bool, true, false, List, [], ◌∷◌, ◌++◌, Some, None, length, map, take, drop, get_or, inl, inr, refl, sym, ap, ◌∙◌, subst, arith}
 use Rattle.std.specs.Prelude.{All, if◌then◌else◌}
 use Rattle.std.proofs.lemmas.Bool.{cases_lt}
 use Rattle.std.proofs.lemmas.List.{length-map, map-append, take_more, take_all}
@@ -23,27 +23,19 @@ module _ {A : Type 0} (cell : A → Datum) where
 
   -- marks and values are the cells
   marked_are : (nulls : List Bool) (values : List A) → marked cell nulls values ≡ map (datum_by cell) (options_of nulls values)
-  marked_are [] values = refl
-  marked_are (n ∷ nulls) [] = refl
+  marked_are nulls [] = refl
+  marked_are [] (v ∷ values) = ap (λ cells. cell v ∷ cells) (marked_are [] values)
   marked_are (n ∷ nulls) (v ∷ values) = λ i. one n v i ∷ marked_are nulls values i
-
-  -- as many marks, and as many values
-  long_enough : (nulls : List Bool) (values : List A) → length nulls ≡ length values
-      → (length (map (datum_by cell) (options_of nulls values)) ≤ length nulls) × (length (map (datum_by cell) (options_of nulls values)) ≤ length values)
-  long_enough nulls values same =
-      let long = length-map (options_of nulls values) (datum_by cell) in
-      let all = length-options nulls values same in
-      (omega (arith, long, all), omega (arith, long, all, same))
 
   module _ (nulls : List Bool) (values : List A) (ns : List Bool) (vs : List A) where
     pub cells_are : ns ≡ nulls → vs ≡ values → marked cell ns vs ≡ map (datum_by cell) (options_of nulls values)
     cells_are marks are = (λ i. marked cell (marks i) (are i)) ∙ marked_are nulls values
 
-    pub all_long : length nulls ≡ length values → ns ≡ nulls → vs ≡ values
-        → (length (map (datum_by cell) (options_of nulls values)) ≤ length ns) × (length (map (datum_by cell) (options_of nulls values)) ≤ length vs)
-    all_long same marks are =
-        let long = long_enough nulls values same in
-        (omega (arith, long.0, ap length marks), omega (arith, long.1, ap length are))
+  -- as many values
+  pub all_long : (nulls : List Bool) (values vs : List A) → vs ≡ values → length (map (datum_by cell) (options_of nulls values)) ≤ length vs
+  all_long nulls values vs are =
+      let long = length-map (options_of nulls values) (datum_by cell) in
+      omega (arith, long, length-options nulls values, ap length are)
 
 -- ---- the views of columns
 
@@ -66,12 +58,12 @@ all_views columns n now past is = is ∙ ap (map cells_of) (take_all n columns p
 -- ---- the rows of a chunk
 
 fewer : (n m : ℕ) (view : ColumnView) → n ≤ m → HasRows m view → HasRows n view
-fewer n m (views.Boolean nulls column) less long = (omega (arith, less, long.0), omega (arith, less, long.1))
-fewer n m (views.Bigint nulls column) less long = (omega (arith, less, long.0), omega (arith, less, long.1))
-fewer n m (views.Date nulls column) less long = (omega (arith, less, long.0), omega (arith, less, long.1))
-fewer n m (views.Time nulls column) less long = (omega (arith, less, long.0), omega (arith, less, long.1))
-fewer n m (views.Timestamp nulls column) less long = (omega (arith, less, long.0), omega (arith, less, long.1))
-fewer n m (views.Varchar nulls column) less long = (omega (arith, less, long.0), omega (arith, less, long.1))
+fewer n m (views.Boolean nulls column) less long = omega (arith, less, long)
+fewer n m (views.Bigint nulls column) less long = omega (arith, less, long)
+fewer n m (views.Date nulls column) less long = omega (arith, less, long)
+fewer n m (views.Time nulls column) less long = omega (arith, less, long)
+fewer n m (views.Timestamp nulls column) less long = omega (arith, less, long)
+fewer n m (views.Varchar nulls column) less long = omega (arith, less, long)
 
 long_views : (n : ℕ) (columns : List Column) (now : List ColumnView) → map view_cells now ≡ map cells_of columns
     → ((number : ℕ) (other : Column) → number < length columns → n ≤ length (cells_of (get_or columns number other))) → All (λ v. HasRows (length (view_cells v)) v) now

@@ -3,10 +3,10 @@ use Rattle.std.specs.Prelude.{ℕ, Bool, if◌then◌else◌, List, [], ◌∷�
 use Rattle.column_store.specs.declared.nullable.Nullable.{Nullable}
 use Rattle.column_store.specs.declared.nullable_texts.NullableTexts.{NullableTexts}
 
--- the values, and none for each null
+-- the values, and none for each null; behind the last mark none is null
 abbrev pub options_of : {A : Type 0} → List Bool → List A → List (Option A)
-options_of [] values = []
-options_of (is_null ∷ nulls) [] = []
+options_of nulls [] = []
+options_of [] (value ∷ values) = Some value ∷ options_of [] values
 options_of (is_null ∷ nulls) (value ∷ values) = (if is_null then None else Some value) ∷ options_of nulls values
 
 abbrev pub options : {A : Type 0} → Nullable A → List (Option A)

@@ -1,16 +1,19 @@
 // Values that may be null.
-ghost use Rattle.std.specs.Prelude.{◌≡◌, ◌≤◌, ◌<◌, ◌+◌, ◌++◌, ◌∷◌, [], true, is_some, length, map, slice_get, take, IfOk, Some, OnErr, OnOk};
+ghost use Rattle.std.specs.Prelude.{◌≡◌, ◌≤◌, ◌<◌, ◌+◌, ◌++◌, ◌∷◌, [], true, is_some, length, map, slice_get, take, vec_capacity, IfOk, Some, OnErr, OnOk};
 ghost use Rattle.std.specs.Option.{option_to_list};
 
 use csv_source::NoMemory;
 use std::alloc::Global;
+use value_types::is_marked;
 
-/// Values of one type, each with a mark beside it: where it is null, the value counts for nothing.
+/// Values of one type, and marks that say which of the first ones are null: such a value counts for nothing, and behind
+/// the last mark none is null. So a column without nulls has no mark.
 #[derive(Drop)]
 pub(crate) struct Nullable<T> {
     nulls: Vec<bool>,
     values: Vec<T>,
-    ghost paired: { length nulls.items ≡ length values.items },
+    ghost paired: { length nulls.items ≤ length values.items },
+    ghost roomy: { length values.items ≤ vec_capacity nulls },
 }
 
 impl<T: Copy + Default> Nullable<T> {
@@ -28,7 +31,7 @@ impl<T: Copy + Default> Nullable<T> {
     pub(crate) fn len(&self) -> usize
         ensures { result ≡ length (options self.now) }
     {
-        self.nulls.len()
+        self.values.len()
     }
 
     pub(crate) fn nulls(&self) -> &[bool]
@@ -47,7 +50,7 @@ impl<T: Copy + Default> Nullable<T> {
         requires { row < length (options self.now) }
         ensures { slice_get (options self.now) row ≡ Some result }
     {
-        if self.nulls[row] {
+        if is_marked(&self.nulls, row) {
             None
         } else {
             Some(self.values[row])
@@ -59,7 +62,11 @@ impl<T: Copy + Default> Nullable<T> {
         ensures ok { OnOk result (length (options self.old) + more ≤ room self.new) }
         ensures room { room self.old ≤ room self.new }
     {
-        self.nulls.reserve(more)?;
+        let unmarked = self.values.len() - self.nulls.len();
+        let Some(marks) = unmarked.checked_add(more) else {
+            return Err(NoMemory);
+        };
+        self.nulls.reserve(marks)?;
         self.values.reserve(more)?;
         Ok(())
     }
@@ -79,11 +86,27 @@ impl<T: Copy + Default> Nullable<T> {
         ensures value { options self.new ≡ options self.old ++ value ∷ [] }
         ensures room { room self.new ≡ room self.old }
     {
-        self.nulls.push_reserved(value.is_none());
-        self.values.push_reserved(match value {
-            Some(value) => value,
-            None => T::default(),
-        });
+        match value {
+            Some(value) => self.values.push_reserved(value),
+            None => {
+                self.mark_before(1);
+                self.nulls.push_reserved(true);
+                self.values.push_reserved(T::default());
+            }
+        }
+    }
+
+    /// Gives each value a mark where marks are to follow, so that these stand beside the values behind them.
+    fn mark_before(&mut self, marks: usize)
+        requires { length (options self.old) ≤ room self.old }
+        ensures all { 0 < marks → length self.new.nulls.items ≡ length self.new.values.items }
+        ensures value { options self.new ≡ options self.old }
+        ensures kept { self.new.values ≡ self.old.values }
+        ensures room { room self.new ≡ room self.old }
+    {
+        while marks > 0 && self.nulls.len() < self.values.len() {
+            self.nulls.push_reserved(false);
+        }
     }
 
     /// Makes room for a value, unless there is some already.
@@ -113,7 +136,6 @@ impl<T: Copy + Default> Nullable<T> {
             return Ok(false);
         };
         self.make_room(roomy)?;
-        self.nulls.push_reserved(false);
         self.values.push_reserved(value);
         Ok(true)
     }
@@ -124,6 +146,7 @@ impl<T: Copy + Default> Nullable<T> {
         ensures room { room self.old ≤ room self.new }
     {
         self.reserve(other.len())?;
+        self.mark_before(other.nulls.len());
         self.nulls.extend_from_slice(&other.nulls)?;
         self.values.extend_from_slice(&other.values)?;
         Ok(())

@@ -4,14 +4,15 @@ ghost use Rattle.std.specs.Option.{option_copied};
 
 use csv_source::NoMemory;
 use std::alloc::Global;
-use value_types::Texts;
+use value_types::{Texts, is_marked};
 
-/// Texts, each with a mark beside it: where it is null, the text is empty.
+/// Texts, and marks that say which of the first ones are null: such a text is empty, and behind the last mark none is null.
 #[derive(Drop)]
 pub(crate) struct NullableTexts {
     nulls: Vec<bool>,
     texts: Texts,
-    ghost paired: { length nulls.items ≡ length texts },
+    ghost paired: { length nulls.items ≤ length texts },
+    ghost roomy: { length texts ≤ vec_capacity nulls },
 }
 
 impl NullableTexts {
@@ -29,7 +30,7 @@ impl NullableTexts {
     pub(crate) fn len(&self) -> usize
         ensures { result ≡ length (texts_or_null self.now) }
     {
-        self.nulls.len()
+        self.texts.len()
     }
 
     pub(crate) fn nulls(&self) -> &[bool]
@@ -48,10 +49,38 @@ impl NullableTexts {
         requires { row < length (texts_or_null self.now) }
         ensures { slice_get (texts_or_null self.now) row ≡ Some (option_copied result) }
     {
-        if self.nulls[row] {
+        if is_marked(&self.nulls, row) {
             None
         } else {
             Some(self.texts.get(row))
+        }
+    }
+
+    /// Makes room for the marks of all texts and of more.
+    fn reserve_marks(&mut self, more: usize) -> Result<(), NoMemory>
+        ensures value { texts_or_null self.new ≡ texts_or_null self.old }
+        ensures kept { self.new.texts ≡ self.old.texts }
+        ensures ok { OnOk result (length (texts_or_null self.old) + more ≤ vec_capacity self.new.nulls) }
+        ensures room { vec_capacity self.old.nulls ≤ vec_capacity self.new.nulls }
+    {
+        let unmarked = self.texts.len() - self.nulls.len();
+        let Some(marks) = unmarked.checked_add(more) else {
+            return Err(NoMemory);
+        };
+        self.nulls.reserve(marks)?;
+        Ok(())
+    }
+
+    /// Gives each text a mark where marks are to follow, so that these stand beside the texts behind them.
+    fn mark_before(&mut self, marks: usize)
+        requires { length (texts_or_null self.old) ≤ vec_capacity self.old.nulls }
+        ensures all { 0 < marks → length self.new.nulls.items ≡ length self.new.texts }
+        ensures value { texts_or_null self.new ≡ texts_or_null self.old }
+        ensures kept { self.new.texts ≡ self.old.texts }
+        ensures room { vec_capacity self.new.nulls ≡ vec_capacity self.old.nulls }
+    {
+        while marks > 0 && self.nulls.len() < self.texts.len() {
+            self.nulls.push_reserved(false);
         }
     }
 
@@ -61,7 +90,7 @@ impl NullableTexts {
         ensures ok { OnOk result (length (texts_or_null self.old) + more ≤ vec_capacity self.new.nulls) }
         ensures room { vec_capacity self.old.nulls ≤ vec_capacity self.new.nulls }
     {
-        self.nulls.reserve(more)?;
+        self.reserve_marks(more)?;
         self.texts.reserve(more)?;
         Ok(())
     }
@@ -74,7 +103,8 @@ impl NullableTexts {
         match text {
             Some(text) => self.push_text(text),
             None => {
-                self.nulls.reserve(1)?;
+                self.reserve_marks(1)?;
+                self.mark_before(1);
                 self.texts.push(b"")?;
                 self.nulls.push_reserved(true);
                 Ok(())
@@ -89,9 +119,8 @@ impl NullableTexts {
         ensures err { OnErr result (texts_or_null self.new ≡ texts_or_null self.old) }
         ensures room { vec_capacity self.old.nulls ≤ vec_capacity self.new.nulls }
     {
-        self.nulls.reserve(1)?;
+        self.reserve_marks(1)?;
         self.texts.push(text)?;
-        self.nulls.push_reserved(false);
         Ok(())
     }
 
@@ -100,7 +129,8 @@ impl NullableTexts {
         ensures err { OnErr result (texts_or_null self.new ≡ texts_or_null self.old) }
         ensures room { vec_capacity self.old.nulls ≤ vec_capacity self.new.nulls }
     {
-        self.nulls.reserve(other.nulls.len())?;
+        self.reserve_marks(other.len())?;
+        self.mark_before(other.nulls.len());
         self.texts.append(&other.texts)?;
         self.nulls.extend_from_slice(&other.nulls)?;
         Ok(())

@@ -1,6 +1,7 @@
 -- Rows of columns, taken in column by column.
-use Rattle.std.proofs.Common.{◌≡◌, ◌≢◌, ℤ, Bor, ℕ, zero, suc, ◌+◌, ◌*◌, ◌<◌, ◌≤◌, Bool, true, false, List, [], ◌∷◌, Option, Some, None, length, take, map, get_or, refl, sym, ap, ◌∙◌, arith}
-use Rattle.std.specs.Prelude.{All, slice_get, not, count_by, sum_by, if◌then◌else◌}
+use Rattle.std.proofs.Common.{◌≡◌, ◌≢◌, ℤ, Bor, ℕ, zero, suc, ◌+◌, ◌*◌, ◌<◌, ◌≤◌, Bool, true, false, List, [], ◌∷◌, Option, Some, None, length, take, drop, map, get_or, refl, sym, ap, ◌∙◌, add-one, arith}
+use Rattle.std.specs.Prelude.{All, slice_get, count_by, sum_by, if◌then◌else◌}
+use Rattle.std.specs.Int.{int_min, int_max}
 use Rattle.std.specs.List.{fold, range_with_len}
 use Rattle.std.proofs.lemmas.List.{get_or-take, length-take, length-take-le}
 use Rattle.std.proofs.lemmas.List.Elements.{All-head, All-tail, All-weaker}
@@ -20,70 +21,84 @@ use Rattle.column_taps.proofs.ShownSteps.{many}
 
 -- ---- the cells of a column
 
+no_marks : (n : ℕ) → count_by (λ (mark : Bool). mark) (take n []) ≡ 0
+no_marks zero = refl
+no_marks (suc n) = refl
+
 module _ {A : Type 0} (cell : A → Datum) where
-  marked_long : (n : ℕ) (nulls : List Bool) (values : List A) → n ≤ length nulls → n ≤ length values → n ≤ length (marked cell nulls values)
-  marked_long zero nulls values marks all = omega arith
-  marked_long (suc n) [] values marks all = absurd (let no : ⊥ = omega (arith, marks) in no)
-  marked_long (suc n) (b ∷ nulls) [] marks all = absurd (let no : ⊥ = omega (arith, all) in no)
-  marked_long (suc n) (b ∷ nulls) (v ∷ values) marks all = let rest = marked_long n nulls values (omega (arith, marks)) (omega (arith, all)) in omega (arith, rest)
+  marked_long : (n : ℕ) (nulls : List Bool) (values : List A) → n ≤ length values → n ≤ length (marked cell nulls values)
+  marked_long zero nulls values all = omega arith
+  marked_long (suc n) nulls [] all = absurd (let no : ⊥ = omega (arith, all) in no)
+  marked_long (suc n) [] (v ∷ values) all = let rest = marked_long n [] values (omega (arith, all)) in omega (arith, rest)
+  marked_long (suc n) (b ∷ nulls) (v ∷ values) all = let rest = marked_long n nulls values (omega (arith, all)) in omega (arith, rest)
 
-  pub marked_next : (nulls : List Bool) (values : List A) (k : ℕ) (d : Datum) (b : Bool) (v : A) → k < length nulls → k < length values
-      → get_or (marked cell nulls values) k d ≡ (if get_or nulls k b then null else cell (get_or values k v))
-  marked_next [] values k d b v marks all = absurd (let no : ⊥ = omega (arith, marks) in no)
-  marked_next (m ∷ nulls) [] k d b v marks all = absurd (let no : ⊥ = omega (arith, all) in no)
-  marked_next (m ∷ nulls) (w ∷ values) zero d b v marks all = refl
-  marked_next (m ∷ nulls) (w ∷ values) (suc k) d b v marks all = marked_next nulls values k d b v (omega (arith, marks)) (omega (arith, all))
+  pub marked_next : (nulls : List Bool) (values : List A) (k : ℕ) (d : Datum) (v : A) → k < length values
+      → get_or (marked cell nulls values) k d ≡ (if get_or nulls k false then null else cell (get_or values k v))
+  marked_next nulls [] k d v all = absurd (let no : ⊥ = omega (arith, all) in no)
+  marked_next [] (w ∷ values) zero d v all = refl
+  marked_next [] (w ∷ values) (suc k) d v all = marked_next [] values k d v (omega (arith, all))
+  marked_next (m ∷ nulls) (w ∷ values) zero d v all = refl
+  marked_next (m ∷ nulls) (w ∷ values) (suc k) d v all = marked_next nulls values k d v (omega (arith, all))
 
-  pub marked_within : (n : ℕ) (nulls : List Bool) (values : List A) → n < length nulls → n < length values → n < length (marked cell nulls values)
-  marked_within n nulls values marks all = let long = marked_long (suc n) nulls values (omega (arith, marks)) (omega (arith, all)) in omega (arith, long)
+  pub marked_within : (n : ℕ) (nulls : List Bool) (values : List A) → n < length values → n < length (marked cell nulls values)
+  marked_within n nulls values all = let long = marked_long (suc n) nulls values (omega (arith, all)) in omega (arith, long)
 
   -- cells that change nothing
   pub fold_marked : {S : Type 0} (add : S → Datum → S) (s : S) (n : ℕ) (nulls : List Bool) (values : List A) → add s null ≡ s → ((v : A) → add s (cell v) ≡ s)
       → fold add s (take n (marked cell nulls values)) ≡ s
   fold_marked add s zero nulls values none each = refl
-  fold_marked add s (suc n) [] values none each = refl
-  fold_marked add s (suc n) (b ∷ nulls) [] none each = refl
+  fold_marked add s (suc n) nulls [] none each = refl
+  fold_marked add s (suc n) [] (v ∷ values) none each = ap (λ t. fold add t (take n (marked cell [] values))) (each v) ∙ fold_marked add s n [] values none each
   fold_marked add s (suc n) (true ∷ nulls) (v ∷ values) none each = ap (λ t. fold add t (take n (marked cell nulls values))) none ∙ fold_marked add s n nulls values none each
   fold_marked add s (suc n) (false ∷ nulls) (v ∷ values) none each = ap (λ t. fold add t (take n (marked cell nulls values))) (each v) ∙ fold_marked add s n nulls values none each
 
-  -- marks that aren't set
-  count_marked : (n : ℕ) (nulls : List Bool) (values : List A) → ((v : A) → is_filled (cell v) ≡ true) → n ≤ length nulls → n ≤ length values
-      → count_by not (take n nulls) ≡ count_by is_filled (take n (marked cell nulls values))
-  count_marked zero nulls values filled marks all = refl
-  count_marked (suc n) [] values filled marks all = absurd (let no : ⊥ = omega (arith, marks) in no)
-  count_marked (suc n) (b ∷ nulls) [] filled marks all = absurd (let no : ⊥ = omega (arith, all) in no)
-  count_marked (suc n) (true ∷ nulls) (v ∷ values) filled marks all = count_marked n nulls values filled (omega (arith, marks)) (omega (arith, all))
-  count_marked (suc n) (false ∷ nulls) (v ∷ values) filled marks all =
-      let rest = count_marked n nulls values filled (omega (arith, marks)) (omega (arith, all)) in
-      let left = sum_by-cons (λ b. if not b then 1 else 0) false (take n nulls) in
-      let right = sum_by-cons (λ d. if is_filled d then 1 else 0) (cell v) (take n (marked cell nulls values)) in
+  -- a cell is filled, and one mark fewer is set
+  count_marked : (n : ℕ) (nulls : List Bool) (values : List A) → ((v : A) → is_filled (cell v) ≡ true) → n ≤ length values
+      → count_by is_filled (take n (marked cell nulls values)) + count_by (λ mark. mark) (take n nulls) ≡ n
+  count_marked zero nulls values filled all = refl
+  count_marked (suc n) nulls [] filled all = absurd (let no : ⊥ = omega (arith, all) in no)
+  count_marked (suc n) [] (v ∷ values) filled all =
+      let rest = count_marked n [] values filled (omega (arith, all)) in
+      let none : count_by (λ mark. mark) (take n []) ≡ 0 = no_marks n in
+      let cells = sum_by-cons (λ d. if is_filled d then 1 else 0) (cell v) (take n (marked cell [] values)) in
       let one : ◌≡◌ {A = ℕ} (if is_filled (cell v) then 1 else 0) 1 = ap (λ b. if b then 1 else 0) (filled v) in
-      omega (arith, rest, left, right, one)
+      omega (arith, rest, none, cells, one)
+  count_marked (suc n) (true ∷ nulls) (v ∷ values) filled all =
+      let rest = count_marked n nulls values filled (omega (arith, all)) in
+      let marks = sum_by-cons (λ (b : Bool). if b then 1 else 0) true (take n nulls) in
+      let cells = sum_by-cons (λ d. if is_filled d then 1 else 0) null (take n (marked cell nulls values)) in
+      omega (arith, rest, marks, cells)
+  count_marked (suc n) (false ∷ nulls) (v ∷ values) filled all =
+      let rest = count_marked n nulls values filled (omega (arith, all)) in
+      let marks = sum_by-cons (λ (b : Bool). if b then 1 else 0) false (take n nulls) in
+      let cells = sum_by-cons (λ d. if is_filled d then 1 else 0) (cell v) (take n (marked cell nulls values)) in
+      let one : ◌≡◌ {A = ℕ} (if is_filled (cell v) then 1 else 0) 1 = ap (λ b. if b then 1 else 0) (filled v) in
+      omega (arith, rest, marks, cells, one)
 
 view_long : (n : ℕ) (view : ColumnView) → HasRows n view → n ≤ length (view_cells view)
-view_long n (views.Boolean nulls column) long = marked_long (λ b. typed (values.Bool b)) n nulls.now column.now long.0 long.1
-view_long n (views.Bigint nulls column) long = marked_long (λ z. typed (values.Int z)) n nulls.now column.now long.0 long.1
-view_long n (views.Date nulls column) long = marked_long (λ z. typed (values.Date z)) n nulls.now column.now long.0 long.1
-view_long n (views.Time nulls column) long = marked_long (λ z. typed (values.Time z)) n nulls.now column.now long.0 long.1
-view_long n (views.Timestamp nulls column) long = marked_long (λ z. typed (values.Stamp z)) n nulls.now column.now long.0 long.1
-view_long n (views.Varchar nulls column) long = marked_long text n nulls.now column.now long.0 long.1
+view_long n (views.Boolean nulls column) long = marked_long (λ b. typed (values.Bool b)) n nulls.now column.now long
+view_long n (views.Bigint nulls column) long = marked_long (λ z. typed (values.Int z)) n nulls.now column.now long
+view_long n (views.Date nulls column) long = marked_long (λ z. typed (values.Date z)) n nulls.now column.now long
+view_long n (views.Time nulls column) long = marked_long (λ z. typed (values.Time z)) n nulls.now column.now long
+view_long n (views.Timestamp nulls column) long = marked_long (λ z. typed (values.Stamp z)) n nulls.now column.now long
+view_long n (views.Varchar nulls column) long = marked_long text n nulls.now column.now long
 
-pub filled_by_marks : (n : ℕ) (view : ColumnView) → HasRows n view → count_by not (take n (nulls_in view)) ≡ count_by is_filled (take n (view_cells view))
-filled_by_marks n (views.Boolean nulls column) long = count_marked (λ b. typed (values.Bool b)) n nulls.now column.now (λ b. refl) long.0 long.1
-filled_by_marks n (views.Bigint nulls column) long = count_marked (λ z. typed (values.Int z)) n nulls.now column.now (λ z. refl) long.0 long.1
-filled_by_marks n (views.Date nulls column) long = count_marked (λ z. typed (values.Date z)) n nulls.now column.now (λ z. refl) long.0 long.1
-filled_by_marks n (views.Time nulls column) long = count_marked (λ z. typed (values.Time z)) n nulls.now column.now (λ z. refl) long.0 long.1
-filled_by_marks n (views.Timestamp nulls column) long = count_marked (λ z. typed (values.Stamp z)) n nulls.now column.now (λ z. refl) long.0 long.1
-filled_by_marks n (views.Varchar nulls column) long = count_marked text n nulls.now column.now (λ t. refl) long.0 long.1
+pub filled_by_marks : (n : ℕ) (view : ColumnView) → HasRows n view → count_by is_filled (take n (view_cells view)) + count_by (λ mark. mark) (take n (nulls_in view)) ≡ n
+filled_by_marks n (views.Boolean nulls column) long = count_marked (λ b. typed (values.Bool b)) n nulls.now column.now (λ b. refl) long
+filled_by_marks n (views.Bigint nulls column) long = count_marked (λ z. typed (values.Int z)) n nulls.now column.now (λ z. refl) long
+filled_by_marks n (views.Date nulls column) long = count_marked (λ z. typed (values.Date z)) n nulls.now column.now (λ z. refl) long
+filled_by_marks n (views.Time nulls column) long = count_marked (λ z. typed (values.Time z)) n nulls.now column.now (λ z. refl) long
+filled_by_marks n (views.Timestamp nulls column) long = count_marked (λ z. typed (values.Stamp z)) n nulls.now column.now (λ z. refl) long
+filled_by_marks n (views.Varchar nulls column) long = count_marked text n nulls.now column.now (λ t. refl) long
 
 -- one cell more of a column
 module _ {A S : Type 0} (cell : A → Datum) (add : S → Datum → S) (first : S) (nulls : List Bool) (values : List A) (k : ℕ) (b : Bool) (v : A) where
-  pub fold_next : k < length nulls → k < length values → b ≡ get_or nulls k false → slice_get values k ≡ Some v → (now next : S) → now ≡ fold add first (take k (marked cell nulls values))
+  pub fold_next : k < length values → b ≡ get_or nulls k false → slice_get values k ≡ Some v → (now next : S) → now ≡ fold add first (take k (marked cell nulls values))
       → next ≡ add now (if b then null else cell v) → next ≡ fold add first (take (k + 1) (marked cell nulls values))
-  fold_next marks all mark found now next so_far told =
+  fold_next all mark found now next so_far told =
       told ∙ (λ i. add (so_far i) (if mark i then null else cell (sym (get_or_from_slice_get values k v v found) i)))
-      ∙ ap (add (fold add first (take k (marked cell nulls values)))) (sym (marked_next cell nulls values k null false v marks all))
-      ∙ sym (fold_more add first (marked cell nulls values) k null (marked_within cell k nulls values marks all))
+      ∙ ap (add (fold add first (take k (marked cell nulls values)))) (sym (marked_next cell nulls values k null v all))
+      ∙ sym (fold_more add first (marked cell nulls values) k null (marked_within cell k nulls values all))
 
 -- columns that have none
 not_a_number : {A : Type 0} (cell : A → Datum) (extent : Option Extent) → ((v : A) → extent_with extent (cell v) ≡ extent) → (n : ℕ) (nulls : List Bool) (values : List A)
@@ -252,3 +267,37 @@ counts_are_few n columns more told =
     let few = sums_are_few n (λ column. count_by is_filled (take n (view_cells column))) columns
     (λ c. let one = count_by-le-length is_filled (take n (view_cells c)) in let long = length-take n (view_cells c) in omega (arith, one, long)) in
     omega (arith, told, few)
+
+-- ---- numbers without marks
+
+plain_front : {A : Type 0} (cell : A → Datum) (n : ℕ) (values : List A) → take n (marked cell [] values) ≡ map cell (take n values)
+plain_front cell zero values = refl
+plain_front cell (suc n) [] = refl
+plain_front cell (suc n) (v ∷ values) = ap (λ cells. cell v ∷ cells) (plain_front cell n values)
+
+-- the first values of a column that has no mark
+pub fold_plain : {A S : Type 0} (cell : A → Datum) (add : S → Datum → S) (s : S) (n : ℕ) (nulls : List Bool) (values front : List A) → nulls ≡ [] → front ≡ take n values
+    → fold add s (map cell front) ≡ fold add s (take n (marked cell nulls values))
+fold_plain cell add s n nulls values front none is =
+    ap (λ vs. fold add s (map cell vs)) is ∙ ap (fold add s) (sym (plain_front cell n values)) ∙ ap (λ ns. fold add s (take n (marked cell ns values))) (sym none)
+
+-- one number more
+widened_next : (numbers : List ℤ) (k : ℕ) (number : ℤ) (first : Option Extent) → k < length numbers → number ≡ get_or numbers k number
+    → fold extent_with first (map (λ n. typed (values.Int n)) (take (suc k) numbers)) ≡ extent_with (fold extent_with first (map (λ n. typed (values.Int n)) (take k numbers))) (typed (values.Int number))
+widened_next [] k number first within is = absurd (let no : ⊥ = omega (arith, within) in no)
+widened_next (n ∷ numbers) zero number first within is = ap (λ z. extent_with first (typed (values.Int z))) (sym is)
+widened_next (n ∷ numbers) (suc k) number first within is = widened_next numbers k number (extent_with first (typed (values.Int n))) (omega (arith, within)) is
+
+pub widened_more : (numbers : List ℤ) (k : ℕ) (number : ℤ) (first : Option Extent) (so_far more : Extent) → k < length numbers → number ≡ get_or numbers k number
+    → Some so_far ≡ fold extent_with first (map (λ n. typed (values.Int n)) (take k numbers)) → more ≡ record { least = int_min so_far.least number; greatest = int_max so_far.greatest number }
+    → Some more ≡ fold extent_with first (map (λ n. typed (values.Int n)) (take (k + 1) numbers))
+widened_more numbers k number first so_far more within is are told =
+    rw add-one (ap Some told ∙ ap (λ extent. extent_with extent (typed (values.Int number))) are ∙ sym (widened_next numbers k number first within is))
+
+-- the extent of numbers is that of the first, and the others
+pub first_number : (numbers : List ℤ) (first : ℤ) → slice_get numbers 0 ≡ Some first
+    → fold extent_with (Some (record { least = first; greatest = first })) (map (λ n. typed (values.Int n)) (drop 1 numbers)) ≡ fold extent_with None (map (λ n. typed (values.Int n)) numbers)
+first_number [] first at = absurd (let no : ⊥ = cc in no)
+first_number (n ∷ numbers) first at =
+    let same : n ≡ first = cc in
+    ap (λ z. fold extent_with (Some (record { least = z; greatest = z })) (map (λ n. typed (values.Int n)) numbers)) (sym same)

@@ -44,10 +44,9 @@ module _ (row : ℕ) where
 
 no_text : {A : Type 0} (cell : A → Datum) (place : ℕ) (pairs : List Pair) → ((v : A) → pairs_and_cell place pairs (cell v) ≡ pairs) → (row : ℕ) (nulls : List Bool) (values : List A)
     → pairs_and_cell place pairs (get_or (marked cell nulls values) row null) ≡ pairs
-no_text cell place pairs none zero [] values = refl
-no_text cell place pairs none (suc row) [] values = refl
-no_text cell place pairs none zero (b ∷ nulls) [] = refl
-no_text cell place pairs none (suc row) (b ∷ nulls) [] = refl
+no_text cell place pairs none row nulls [] = refl
+no_text cell place pairs none zero [] (v ∷ values) = none v
+no_text cell place pairs none (suc row) [] (v ∷ values) = no_text cell place pairs none row [] values
 no_text cell place pairs none zero (true ∷ nulls) (v ∷ values) = refl
 no_text cell place pairs none zero (false ∷ nulls) (v ∷ values) = none v
 no_text cell place pairs none (suc row) (b ∷ nulls) (v ∷ values) = no_text cell place pairs none row nulls values
@@ -90,7 +89,7 @@ have_texts count most place (views.Bigint nulls column) less long = All-nil (Has
 have_texts count most place (views.Date nulls column) less long = All-nil (HasTexts count)
 have_texts count most place (views.Time nulls column) less long = All-nil (HasTexts count)
 have_texts count most place (views.Timestamp nulls column) less long = All-nil (HasTexts count)
-have_texts count most place (views.Varchar nulls texts) less long = All-cons (HasTexts count) _ [] (omega (arith, less, long.0), omega (arith, less, long.1)) (All-nil (HasTexts count))
+have_texts count most place (views.Varchar nulls texts) less long = All-cons (HasTexts count) _ [] (omega (arith, less, long)) (All-nil (HasTexts count))
 
 pub all_have_texts : (count most place : ℕ) (columns : List ColumnView) → count ≤ most → All (HasRows most) columns → All (HasTexts count) (texts_among place columns)
 all_have_texts count most place [] less long = All-nil (HasTexts count)

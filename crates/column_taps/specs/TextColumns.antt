@@ -22,9 +22,9 @@ abbrev pub texts_among : ℕ → List ColumnView → List TextColumn
 texts_among place [] = []
 texts_among place (column ∷ columns) = as_texts place column ++ texts_among (place + 1) columns
 
--- so many marks and texts at least
+-- so many texts at least
 abbrev pub HasTexts : ℕ → TextColumn → Type 0
-HasTexts count column = (count ≤ length column.nulls.now) × (count ≤ length column.texts.now)
+HasTexts count column = count ≤ length column.texts.now
 
 -- the pairs with those that a row has in these columns
 abbrev pub pairs_with_texts : ℕ → List Pair → List TextColumn → List Pair

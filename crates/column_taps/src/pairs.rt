@@ -11,7 +11,7 @@ use crate::text_columns::TextColumn;
 use csv_source::NoMemory;
 use indexmap::IndexSet;
 use std::alloc::Global;
-use value_types::{Cell, Cells};
+use value_types::{Cell, Cells, is_marked};
 
 /// A column, by its number from 0, and one of its texts.
 #[derive(PartialEq, Eq, Hash, Drop)]
@@ -100,7 +100,7 @@ impl KeptPairs {
         ensures ok { OnOk result (pairs_in self.new ≡ pairs_and_cell column.now.place (pairs_in self.old) (slice_index_or (marked text column.now.nulls.now column.now.texts.now) row null)) }
         ensures err { OnErr result (pairs_in self.new ≡ pairs_in self.old) }
     {
-        if column.nulls[row] {
+        if is_marked(column.nulls, row) {
             return Ok(());
         }
         self.add(column.place, column.texts.get(row))

@@ -6,7 +6,7 @@ ghost use Rattle.value_types.specs.Views.{marked};
 ghost use Rattle.column_taps.specs.Seen.{width_with};
 
 use super::Width;
-use value_types::Texts;
+use value_types::{Texts, is_marked};
 
 /// A width with a text, unless it is null.
 #[inline(always)]
@@ -31,13 +31,12 @@ pub(crate) fn with_texts(
     nulls: &[bool],
     texts: &Texts,
 ) -> Option<Width>
-    requires marks { rows ≤ length nulls.now }
-    requires texts { rows ≤ length texts.now }
+    requires { rows ≤ length texts.now }
     ensures { result ≡ fold width_with width (take rows (marked text nulls.now texts.now)) }
 {
     let mut width = width;
     for row in 0..rows {
-        width = with_text(width, nulls[row], texts.get(row));
+        width = with_text(width, is_marked(nulls, row), texts.get(row));
     }
     width
 }

@@ -1,16 +1,15 @@
-use Rattle.std.proofs.Common.{ℤ, refl, ap, ◌∙◌, arith, get_or}
-use Rattle.std.specs.Prelude.{if◌then◌else◌, false}
+use Rattle.std.proofs.Common.{◌≡◌, List, [], ◌∷◌, Bool, length, refl, ◌∙◌, arith}
 use Rattle.value_types.specs.declared.types.Value.TheVariants as values
-use Rattle.value_types.specs.Datum.{null, typed}
-use Rattle.value_types.proofs.ViewSteps.{number_kept}
+use Rattle.value_types.specs.Datum.{typed}
 use Rattle.column_taps.specs.Seen.{extent_with}
-use Rattle.column_taps.proofs.ColumnRows.{fold_next}
+use Rattle.column_taps.proofs.ColumnRows.{fold_plain}
 use Rattle.column_taps.proofs.span.numbers.with_numbers.Goals as goal
 
-pub loop-row-preserved : goal.loop-row-preserved
-loop-row-preserved c =
-    let extent = c.loop-row.extent in
-    let is_null = get_or c.args.nulls.now c.loop-row.row false in
-    fold_next (λ n. typed (values.Int n)) extent_with c.args.extent c.args.nulls.now c.args.numbers.now c.loop-row.row is_null c.number_at.result
-    (omega (arith, c.requires.marks)) (omega (arith, c.requires.values)) refl c.number_at.ensures extent _ c.loop-row.invariant
-    (c.with_number-extent.ensures ∙ ap (λ (n : ℤ). extent_with extent (if is_null then null else typed (values.Int n))) (number_kept c.number_at.result c.number_at.type_inv))
+unmarked : (nulls : List Bool) → length nulls ≡ 0 → nulls ≡ []
+unmarked [] none = refl
+unmarked (n ∷ nulls) none = absurd (let no : ⊥ = omega (arith, none) in no)
+
+pub returns-then-is_empty : goal.returns-then-is_empty
+returns-then-is_empty c =
+    let none : length c.args.nulls.now ≡ 0 = grind (arith, c.if-is_empty.ensures) in
+    c.with_plain.ensures ∙ fold_plain (λ n. typed (values.Int n)) extent_with c.args.extent c.args.rows c.args.nulls.now c.args.numbers.now _ (unmarked c.args.nulls.now none) refl
