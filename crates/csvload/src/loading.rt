@@ -9,6 +9,7 @@ use column_taps::{CountTap, DistinctTap, RowTap, SpanTap, TapKind, WidthTap};
 use csv_loader::run;
 use csv_source::{Gate, NoMemory, Sink, Source};
 use std::alloc::Global;
+use std::sync::Wait;
 use std::thread::Threads;
 
 /// How many different texts the program's last tap may keep.
@@ -28,7 +29,7 @@ fn hand_in(
 }
 
 /// Takes the words to the loader with the program's taps.
-fn run_with<R: Threads + Sync, S: Source, K: Sink, G: Gate>(
+fn run_with<R: Threads + Wait + Sync, S: Source + Send, K: Sink, G: Gate>(
     rt: &R,
     alloc: Global,
     words: &[String],
@@ -45,7 +46,7 @@ fn run_with<R: Threads + Sync, S: Source, K: Sink, G: Gate>(
 }
 
 /// Takes the words to the loader with the program's taps, and answers its status.
-pub fn load<R: Threads + Sync, S: Source, K: Sink, G: Gate>(
+pub fn load<R: Threads + Wait + Sync, S: Source + Send, K: Sink, G: Gate>(
     rt: &R,
     alloc: Global,
     words: &[String],

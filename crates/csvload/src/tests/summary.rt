@@ -2,11 +2,16 @@
 use crate::loading::load;
 use csv_source::{MemorySink, MemorySource, NoMemory, OpenGate};
 use std::alloc::Global;
+use std::sync::Wait;
 use std::test::Fail;
 use std::thread::Threads;
 
 /// The text that `summary` writes of an input.
-fn summary<R: Threads + Sync>(rt: &R, alloc: Global, input: &[u8]) -> Result<MemorySink, NoMemory> {
+fn summary<R: Threads + Wait + Sync>(
+    rt: &R,
+    alloc: Global,
+    input: &[u8],
+) -> Result<MemorySink, NoMemory> {
     let mut words = Vec::new(alloc);
     for word in ["summary", "f.csv"] {
         words.push(String::from_str(alloc, word)?)?;
