@@ -1,8 +1,8 @@
 -- Under what is found in an input the reading of the first file is its reading.
-use Rattle.std.proofs.Common.{◌≡◌, ◌+◌, ◌&&◌, Bool, true, false, List, ℕ, drop, map, refl, ap, sym, ◌∙◌, subst}
+use Rattle.std.proofs.Common.{◌≡◌, List, ℕ, ap, ◌∙◌}
 use Rattle.load_options.specs.declared.options.Options.{Options}
 use Rattle.csv_sniffer.specs.declared.found.Sniffed.{Sniffed}
-use Rattle.csv_sniffer.specs.Input.{found, data_place, place_under}
+use Rattle.csv_sniffer.specs.Input.{found}
 use Rattle.csv_sniffer.proofs.FoundPlaces.{own_place}
 use Rattle.csv_loader.specs.Laws.{OwnReading}
 use Rattle.csv_loader.specs.Reading.{schema_of, verdicts, reading, file_reading}

@@ -1,11 +1,8 @@
 -- Runs of ordinary bytes: their masks, their lengths and their texts.
-use Rattle.std.proofs.Common.{◌≡◌, ℕ, zero, suc, ◌+◌, ◌*◌, ◌^◌, ◌<◌, ◌≤◌, Bool, true, false, cond, ◌||◌, List, [], ◌∷◌, ◌++◌, map, length, take, drop, refl, sym, ◌∙◌, ap, ap₂, arith, not, append_assoc, eqb, ltb, get_or, drop-cons}
+use Rattle.std.proofs.Common.{◌≡◌, ℕ, zero, suc, ◌+◌, ◌<◌, ◌≤◌, Bool, true, false, cond, ◌||◌, List, [], ◌∷◌, ◌++◌, length, take, drop, refl, sym, ◌∙◌, ap, ap₂, arith, not, append_assoc, eqb, ltb, get_or, drop-cons}
 use Rattle.std.specs.List.{prefix_len}
 use Rattle.std.proofs.lemmas.Bool.{ne_eqb, ltb-false}
 use Rattle.std.proofs.lemmas.List.{drop-drop}
-use Rattle.std.proofs.lemmas.Nat.{or_block}
-use lib.Bits.{bit_or}
-use lib.Lanes.{mask_l}
 use Rattle.csv_source.specs.Shown.{shown, shown_byte}
 use Rattle.report_text.specs.Ordinary.{is_ordinary, is_spelled}
 
