@@ -6,16 +6,28 @@ use crate::reply::reply_to;
 use crate::status::words_of;
 use csv_source::NoMemory;
 use std::alloc::Global;
+use std::sync::Wait;
 use std::thread::Threads;
 
 /// The number in the table of the first case that isn't met.
-pub fn wrong_case<R: Threads + Sync>(
+pub fn wrong_case<R: Threads + Wait + Sync>(
     rt: &R,
     alloc: Global,
     cases: &[Case],
 ) -> Result<Option<usize>, NoMemory> {
+    wrong_case_with(rt, alloc, cases, &[])
+}
+
+/// The number in the table of the first case that isn't met with more words.
+pub fn wrong_case_with<R: Threads + Wait + Sync>(
+    rt: &R,
+    alloc: Global,
+    cases: &[Case],
+    more: &[&str],
+) -> Result<Option<usize>, NoMemory> {
     for (number, case) in cases.iter().enumerate() {
-        let words = words_of(alloc, case.words)?;
+        let mut words = words_of(alloc, case.words)?;
+        words.append(&mut words_of(alloc, more)?)?;
         let reply = reply_to(rt, alloc, &words, case.input, IN_PIECES)?;
         if !case.is_met_by(&reply) {
             return Ok(Some(number));
@@ -25,7 +37,7 @@ pub fn wrong_case<R: Threads + Sync>(
 }
 
 /// Whether a case is met with ranges of this size, on so many threads. Its own words give neither.
-fn is_met_in<R: Threads + Sync>(
+fn is_met_in<R: Threads + Wait + Sync>(
     rt: &R,
     alloc: Global,
     case: &Case,
@@ -36,7 +48,7 @@ fn is_met_in<R: Threads + Sync>(
 }
 
 /// The first ranges, of at most so many bytes and on 1, 2, 4 or 64 threads, in which a case isn't met.
-fn wrong_cut_of<R: Threads + Sync>(
+fn wrong_cut_of<R: Threads + Wait + Sync>(
     rt: &R,
     alloc: Global,
     case: &Case,
@@ -57,7 +69,7 @@ fn wrong_cut_of<R: Threads + Sync>(
 }
 
 /// The number in the table of the first case that isn't met in all such ranges, and the ranges in which it isn't.
-pub fn wrong_cut<R: Threads + Sync>(
+pub fn wrong_cut<R: Threads + Wait + Sync>(
     rt: &R,
     alloc: Global,
     cases: &[Case],

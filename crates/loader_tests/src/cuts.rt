@@ -4,6 +4,7 @@ use crate::reply::{Reply, reply_to};
 use crate::status::words_of;
 use csv_source::NoMemory;
 use std::alloc::Global;
+use std::sync::Wait;
 use std::thread::Threads;
 
 /// Ranges of so many bytes, scanned by so many threads.
@@ -20,7 +21,7 @@ const AT_ONCE: Cut = Cut {
 };
 
 /// What words that give neither ranges nor threads come to in such ranges.
-pub fn reply_in<R: Threads + Sync>(
+pub fn reply_in<R: Threads + Wait + Sync>(
     rt: &R,
     alloc: Global,
     words: &[&str],
@@ -44,7 +45,7 @@ fn is_same(one: &Reply, other: &Reply) -> bool {
 }
 
 /// The first of some ranges in which words that give neither come to another reply than in one range on one thread.
-pub fn changing_cut<R: Threads + Sync>(
+pub fn changing_cut<R: Threads + Wait + Sync>(
     rt: &R,
     alloc: Global,
     words: &[&str],

@@ -16,7 +16,7 @@ mod status;
 mod tests;
 
 pub use case::{Case, OPT, OPT_HEADER, OPT_NO_LINE_END};
-pub use cases::{wrong_case, wrong_cut};
+pub use cases::{wrong_case, wrong_case_with, wrong_cut};
 pub use cuts::{Cut, changing_cut, reply_in};
 pub use inputs::repeated;
 pub use outside::{IN_PIECES, Outside, WHOLE};

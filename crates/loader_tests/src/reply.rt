@@ -3,6 +3,7 @@ use crate::outside::Outside;
 use crate::status::status_of;
 use csv_source::{MemorySink, MemorySource, NoMemory, OpenGate};
 use std::alloc::Global;
+use std::sync::Wait;
 use std::thread::Threads;
 
 /// A status, and the text that the sink has taken.
@@ -51,7 +52,7 @@ fn sink_with(alloc: Global, outside: Outside) -> Result<MemorySink, NoMemory> {
 }
 
 /// What the words come to, with these files.
-pub fn reply_to_files<R: Threads + Sync>(
+pub fn reply_to_files<R: Threads + Wait + Sync>(
     rt: &R,
     alloc: Global,
     words: &[String],
@@ -65,7 +66,7 @@ pub fn reply_to_files<R: Threads + Sync>(
 }
 
 /// What the words come to, with `input` as the file `f.csv`.
-pub fn reply_to<R: Threads + Sync>(
+pub fn reply_to<R: Threads + Wait + Sync>(
     rt: &R,
     alloc: Global,
     words: &[String],

@@ -6,6 +6,7 @@ use column_taps::{CountTap, DistinctTap, RowTap, SpanTap, WidthTap};
 use csv_loader::run;
 use csv_source::{Gate, NoMemory, Sink, Source};
 use std::alloc::Global;
+use std::sync::Wait;
 use std::thread::Threads;
 
 pub fn words_of(alloc: Global, words: &[&str]) -> Result<Vec<String>, NoMemory> {
@@ -27,7 +28,7 @@ pub(crate) fn hand_in(taps: &mut Vec<Box<dyn RowTap>>, tap: Box<dyn RowTap>) -> 
 }
 
 /// Runs with a tap of each kind.
-pub fn status_of<R: Threads + Sync, S: Source, K: Sink, G: Gate>(
+pub fn status_of<R: Threads + Wait + Sync, S: Source + Send, K: Sink, G: Gate>(
     rt: &R,
     alloc: Global,
     words: &[String],

@@ -2,6 +2,7 @@
 use crate::{File, IN_PIECES, Outside, Reply, reply_to_files, words_of};
 use csv_source::NoMemory;
 use std::alloc::Global;
+use std::sync::Wait;
 use std::test::Fail;
 use std::thread::Threads;
 
@@ -136,7 +137,7 @@ fn several_files_have_their_replies(rt: HostRuntime) -> Result<(), Fail> {
 }
 
 /// A file by so many names.
-fn many<R: Threads + Sync>(rt: &R, alloc: Global, names: usize) -> Result<Reply, NoMemory> {
+fn many<R: Threads + Wait + Sync>(rt: &R, alloc: Global, names: usize) -> Result<Reply, NoMemory> {
     let mut word = String::new(alloc);
     word.push_str("a.csv")?;
     for _ in 1..names {

@@ -2,6 +2,7 @@
 use crate::{Case, OPT, OPT_HEADER, Outside, Reply, WHOLE, reply_to, words_of, wrong_case};
 use csv_source::NoMemory;
 use std::alloc::Global;
+use std::sync::Wait;
 use std::test::Fail;
 use std::thread::Threads;
 
@@ -173,7 +174,7 @@ const ROOMY: Outside = Outside {
 };
 
 /// What words make of the bytes of `f.csv`.
-fn reply_of<R: Threads + Sync>(
+fn reply_of<R: Threads + Wait + Sync>(
     rt: &R,
     alloc: Global,
     words: &[&str],
@@ -183,7 +184,7 @@ fn reply_of<R: Threads + Sync>(
 }
 
 /// Whether words write this text of the bytes of `f.csv`.
-fn writes<R: Threads + Sync>(
+fn writes<R: Threads + Wait + Sync>(
     rt: &R,
     alloc: Global,
     words: &[&str],
@@ -205,7 +206,7 @@ fn quoted_line(alloc: Global, before: &[u8], inner: &[u8]) -> Result<Vec<u8>, No
 }
 
 /// Whether a text that is read between quotes is written as asked, and whether what is written is written again so.
-fn is_kept<R: Threads + Sync>(
+fn is_kept<R: Threads + Wait + Sync>(
     rt: &R,
     alloc: Global,
     inner: &[u8],
@@ -244,7 +245,11 @@ fn is_kept<R: Threads + Sync>(
 }
 
 /// Whether a text of one ASCII byte is kept.
-fn byte_is_kept<R: Threads + Sync>(rt: &R, alloc: Global, byte: u8) -> Result<bool, NoMemory> {
+fn byte_is_kept<R: Threads + Wait + Sync>(
+    rt: &R,
+    alloc: Global,
+    byte: u8,
+) -> Result<bool, NoMemory> {
     if byte == b'"' {
         return is_kept(rt, alloc, b"\"\"", true);
     }

@@ -2,6 +2,7 @@
 use crate::{IN_PIECES, OPT, Outside, Reply, repeated, reply_to, status_of, words_of};
 use csv_source::{Gate, MemorySink, MemorySource, NoMemory};
 use std::alloc::Global;
+use std::sync::Wait;
 use std::sync::atomic::{AtomicBool, AtomicU64, Ordering};
 use std::test::Fail;
 use std::thread::Threads;
@@ -55,7 +56,7 @@ const LOAD_BY_TWO: &[&str] = &[
 ];
 
 /// Whether two workers load two ranges, and the gate saw the claim of the second come first.
-fn claim_comes_first<R: Threads + Sync>(rt: &R, alloc: Global) -> Result<bool, NoMemory> {
+fn claim_comes_first<R: Threads + Wait + Sync>(rt: &R, alloc: Global) -> Result<bool, NoMemory> {
     let words = words_of(alloc, LOAD_BY_TWO)?;
     let mut source = MemorySource::new(alloc);
     source.put("f.csv", b"1,2\n3,4\n")?;
@@ -90,7 +91,7 @@ fn misleading_text(alloc: Global) -> Result<Vec<u8>, NoMemory> {
 }
 
 /// The load of forty times those rows by eight threads.
-fn misled<R: Threads + Sync>(
+fn misled<R: Threads + Wait + Sync>(
     rt: &R,
     alloc: Global,
     range_size: usize,

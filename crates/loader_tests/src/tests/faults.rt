@@ -2,6 +2,7 @@
 use crate::{IN_PIECES, Outside, Reply, reply_to, words_of};
 use csv_source::NoMemory;
 use std::alloc::Global;
+use std::sync::Wait;
 use std::test::Fail;
 use std::thread::Threads;
 
@@ -62,7 +63,7 @@ rows|3\n\
 errors|0|0\n";
 
 /// The load of the export in pieces of 16 bytes, over calls that fail.
-fn loaded<R: Threads + Sync>(
+fn loaded<R: Threads + Wait + Sync>(
     rt: &R,
     alloc: Global,
     failing_source_call: Option<u64>,

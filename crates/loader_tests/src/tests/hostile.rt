@@ -2,6 +2,7 @@
 use crate::{Cut, WHOLE, changing_cut, repeated, reply_to, words_of};
 use csv_source::NoMemory;
 use std::alloc::Global;
+use std::sync::Wait;
 use std::test::Fail;
 use std::thread::Threads;
 
@@ -54,7 +55,7 @@ const TEXTS: [Text; 18] = [
 ];
 
 /// The number in the table of the first text that doesn't come to one reply, and the ranges in which it comes to another.
-fn changing_text<R: Threads + Sync>(
+fn changing_text<R: Threads + Wait + Sync>(
     rt: &R,
     alloc: Global,
     texts: &[Text],

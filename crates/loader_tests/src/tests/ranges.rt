@@ -1,6 +1,7 @@
 //! Rows, guesses and line ends cut between ranges.
 use crate::{
-    Case, IN_PIECES, OPT, OPT_NO_LINE_END, repeated, reply_to, words_of, wrong_case, wrong_cut,
+    Case, IN_PIECES, OPT, OPT_NO_LINE_END, repeated, reply_to, words_of, wrong_case,
+    wrong_case_with, wrong_cut,
 };
 use std::test::Fail;
 
@@ -158,6 +159,13 @@ stats|ranges=7|rescans=2|scanned=17\n",
 #[test]
 fn ranges_that_cut_have_their_reply(rt: HostRuntime) -> Result<(), Fail> {
     assert_eq!(rt; wrong_case(&rt, rt.alloc(), &RANGES)?, None);
+    Ok(())
+}
+
+#[test]
+fn ranges_that_cut_have_their_reply_while_more_is_read(rt: HostRuntime) -> Result<(), Fail> {
+    let more = &["pipeline=true"];
+    assert_eq!(rt; wrong_case_with(&rt, rt.alloc(), &RANGES, more)?, None);
     Ok(())
 }
 

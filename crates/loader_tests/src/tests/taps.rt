@@ -9,6 +9,7 @@ use column_taps::{CountTap, DistinctTap, RowTap, TapKind, Tapped};
 use csv_loader::run;
 use csv_source::{MemorySink, MemorySource, NoMemory, OpenGate};
 use std::alloc::Global;
+use std::sync::Wait;
 use std::test::Fail;
 use std::thread::Threads;
 use value_types::Cells;
@@ -48,7 +49,7 @@ impl RowTap for RowByRow {
 
 /// What a summary of one column of texts writes, with a tap that counts, one of different texts, and that once more row
 /// by row.
-fn summary<R: Threads + Sync>(
+fn summary<R: Threads + Wait + Sync>(
     rt: &R,
     alloc: Global,
     input: &[u8],

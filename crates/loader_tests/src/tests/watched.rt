@@ -4,20 +4,21 @@ ghost use Rattle.std.specs.Prelude.{Some};
 use crate::{status_of, words_of};
 use csv_source::{Failed, Gate, MemorySink, MemorySource, NoMemory, Source};
 use std::alloc::Global;
-use std::sync::atomic::{AtomicBool, Ordering};
+use std::sync::Wait;
+use std::sync::atomic::{AtomicU64, Ordering};
 use std::thread::Threads;
 
-/// Raises a flag at the first scan.
+/// Counts the scans.
 #[derive(Drop)]
-struct RaisingGate<'a> {
-    scanned: &'a AtomicBool,
+struct CountingGate<'a> {
+    scans: &'a AtomicU64,
 }
 
-impl<'a> Gate for RaisingGate<'a> {
+impl<'a> Gate for CountingGate<'a> {
     fn claimed(&self, _worker: u32, _range: u64) {}
 
     fn scanning(&self, _worker: u32, _range: u64, _state: u8) {
-        self.scanned.store(true, Ordering::SeqCst);
+        self.scans.fetch_add(1, Ordering::SeqCst);
     }
 }
 
@@ -25,7 +26,7 @@ impl<'a> Gate for RaisingGate<'a> {
 #[derive(Drop)]
 struct WatchedSource<'a> {
     source: MemorySource,
-    scanned: &'a AtomicBool,
+    scans: &'a AtomicU64,
     scanned_before_last: bool,
     /// The calls of both kinds.
     calls: u64,
@@ -45,7 +46,7 @@ impl<'a> Source for WatchedSource<'a> {
 
     fn read(&mut self, buf: &mut [u8]) -> Result<usize, Failed> {
         self.calls = self.calls.saturating_add(1);
-        self.scanned_before_last = self.scanned.load(Ordering::SeqCst);
+        self.scanned_before_last = self.scans.load(Ordering::SeqCst) > 0;
         self.source.read(buf)
     }
 }
@@ -72,7 +73,8 @@ pub struct Watched {
     sink: MemorySink,
     /// The calls of the source.
     pub calls: u64,
-    /// Whether a scan came before the last read.
+    /// How many scans there were, and whether one came before the last read.
+    pub scans: u64,
     pub scanned_before_last: bool,
     /// How many of nine bytes the source has left.
     pub left: usize,
@@ -89,6 +91,7 @@ impl Watched {
 /// What is left behind a load.
 fn left_behind(status: u8, sink: MemorySink, source: WatchedSource<'_>) -> Watched {
     let (calls, scanned_before_last) = (source.calls, source.scanned_before_last);
+    let scans = source.scans.load(Ordering::SeqCst);
     let mut source = source;
     let mut rest = [0u8; 9];
     let left = source.read(&mut rest).unwrap_or(usize::MAX);
@@ -96,6 +99,7 @@ fn left_behind(status: u8, sink: MemorySink, source: WatchedSource<'_>) -> Watch
         status,
         sink,
         calls,
+        scans,
         scanned_before_last,
         left,
         next: rest[0],
@@ -103,7 +107,7 @@ fn left_behind(status: u8, sink: MemorySink, source: WatchedSource<'_>) -> Watch
 }
 
 /// What the words come to, with `input` as the file `f.csv` and a source that fails at one call.
-pub fn watched_load<R: Threads + Sync>(
+pub fn watched_load<R: Threads + Wait + Sync>(
     rt: &R,
     alloc: Global,
     words: &[&str],
@@ -111,15 +115,15 @@ pub fn watched_load<R: Threads + Sync>(
     failing_call: Option<u64>,
 ) -> Result<Watched, NoMemory> {
     let words = words_of(alloc, words)?;
-    let scanned = AtomicBool::new(false);
+    let scans = AtomicU64::new(0);
     let mut sink = MemorySink::with_room(alloc, 1000)?;
     let mut source = WatchedSource {
         source: pieces_of(alloc, input, failing_call)?,
-        scanned: &scanned,
+        scans: &scans,
         scanned_before_last: false,
         calls: 0,
     };
-    let gate = RaisingGate { scanned: &scanned };
+    let gate = CountingGate { scans: &scans };
     let status = status_of(rt, alloc, &words, &mut source, &mut sink, &gate)?;
     Ok(left_behind(status, sink, source))
 }

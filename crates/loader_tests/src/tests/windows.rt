@@ -4,6 +4,7 @@ use super::watched::{Watched, watched_load};
 use crate::repeated;
 use csv_source::NoMemory;
 use std::alloc::Global;
+use std::sync::Wait;
 use std::test::Fail;
 use std::thread::Threads;
 
@@ -24,7 +25,7 @@ const LOAD_MADE: &[&str] = &[
 ];
 
 /// The load of many made rows.
-fn made_load<R: Threads + Sync>(rt: &R, alloc: Global) -> Result<Watched, NoMemory> {
+fn made_load<R: Threads + Wait + Sync>(rt: &R, alloc: Global) -> Result<Watched, NoMemory> {
     let text = made(rt, alloc)?;
     watched_load(rt, alloc, LOAD_MADE, text.taken(), None)
 }
@@ -64,25 +65,54 @@ const LOAD_FAULTY: &[&str] = &[
     "max_line_size=1000",
 ];
 
+const LOAD_FAULTY_PIPED: &[&str] = &[
+    "load",
+    "f.csv",
+    "delim=,",
+    "quote=\"",
+    "escape=\"",
+    "header=false",
+    "types=BIGINT",
+    "sample_size=1",
+    "range_size=65536",
+    "max_line_size=1000",
+    "pipeline=true",
+];
+
 /// The load of the faulty rows.
-fn faulty_load<R: Threads + Sync>(
+fn faulty_load<R: Threads + Wait + Sync>(
     rt: &R,
     alloc: Global,
+    words: &[&str],
     failing_call: Option<u64>,
 ) -> Result<Watched, NoMemory> {
     let input = faulty_rows(alloc)?;
-    watched_load(rt, alloc, LOAD_FAULTY, &input, failing_call)
+    watched_load(rt, alloc, words, &input, failing_call)
 }
 
 const READ_FAULT: &[u8] = b"fault|read\n";
 
 #[test]
 fn a_read_that_fails_comes_before_a_first_error(rt: HostRuntime) -> Result<(), Fail> {
-    let load = faulty_load(&rt, rt.alloc(), None)?;
+    let load = faulty_load(&rt, rt.alloc(), LOAD_FAULTY, None)?;
     assert_eq!(rt; load.status, 3);
     assert!(rt; load.text() == FAULTY_ROW);
     assert!(rt; load.scanned_before_last);
-    let load = faulty_load(&rt, rt.alloc(), Some(load.calls))?;
+    assert!(rt; load.scans <= 64);
+    let load = faulty_load(&rt, rt.alloc(), LOAD_FAULTY, Some(load.calls))?;
+    assert_eq!(rt; load.status, 2);
+    assert!(rt; load.text() == READ_FAULT);
+    Ok(())
+}
+
+// The data have 77 ranges, 64 of them in the first group.
+#[test]
+fn all_ranges_are_scanned_while_more_is_read(rt: HostRuntime) -> Result<(), Fail> {
+    let load = faulty_load(&rt, rt.alloc(), LOAD_FAULTY_PIPED, None)?;
+    assert_eq!(rt; load.status, 3);
+    assert!(rt; load.text() == FAULTY_ROW);
+    assert!(rt; load.scans >= 77);
+    let load = faulty_load(&rt, rt.alloc(), LOAD_FAULTY_PIPED, Some(load.calls))?;
     assert_eq!(rt; load.status, 2);
     assert!(rt; load.text() == READ_FAULT);
     Ok(())
@@ -105,7 +135,7 @@ const LOAD_LIMITED: &[&str] = &[
 const TOO_LARGE: &[u8] = b"fault|input over 4999998 bytes\n";
 
 /// The load of the faulty rows under a limit.
-fn limited_load<R: Threads + Sync>(rt: &R, alloc: Global) -> Result<Watched, NoMemory> {
+fn limited_load<R: Threads + Wait + Sync>(rt: &R, alloc: Global) -> Result<Watched, NoMemory> {
     let input = faulty_rows(alloc)?;
     watched_load(rt, alloc, LOAD_LIMITED, &input, None)
 }
