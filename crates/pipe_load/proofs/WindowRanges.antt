@@ -7,7 +7,7 @@ use Rattle.std.proofs.Math.Seq.{take-add}
 use Rattle.std.proofs.lemmas.Bool.{eqb-true}
 use mathlib.Core.Logic.{dite}
 use native.Mathlib.Decide.{dec_le}
-use Rattle.byte_classes.proofs.LineEndLaws.{last_or-append}
+use Rattle.byte_classes.proofs.LineEndLaws.{last_or-append, last_or-some}
 use Rattle.quote_automaton.specs.declared.state.State.{State}
 use Rattle.quote_automaton.specs.declared.state.State.TheVariants.{RowStart}
 use Rattle.range_guess.specs.Cut.{group_len}
@@ -20,7 +20,6 @@ use Rattle.range_scan.specs.declared.span.Span.{Span}
 use Rattle.range_scan.specs.Part.{part_of}
 use Rattle.range_scan.specs.Scanned.{Scanned, judge_in, span_part}
 use Rattle.range_scan.proofs.JudgeLaws.{first_bytes_decide}
-use Rattle.range_scan.proofs.WindowLaws.{last_or-some}
 use Rattle.pipe_load.specs.declared.joining.Joined.{Joined}
 use Rattle.pipe_load.specs.declared.layout.Layout.{Layout}
 use Rattle.pipe_load.specs.declared.layout.Stretch.{Stretch}
