@@ -1,6 +1,4 @@
 // A line on standard error that shows how far the reading has come.
-ghost use Rattle.std.specs.Prelude.{◌≡◌};
-
 use csv_source::{Failed, NoMemory, Source};
 use std::alloc::Global;
 use std::fs;
@@ -8,9 +6,10 @@ use std::io::Eprint;
 use std::rt::Files;
 use std::time::{Clock, Duration, Instant};
 
-/// How long the reading goes on in silence, and how long a line stands before the next, in milliseconds.
+/// How long the reading goes on in silence, in milliseconds.
 const SILENCE: u64 = 1000;
 
+/// How long a line stands before the next, in milliseconds.
 const STEP: u64 = 100;
 
 const MEGABYTE: u64 = 1_000_000;
@@ -18,13 +17,11 @@ const MEGABYTE: u64 = 1_000_000;
 /// Goes to the front of the line on a terminal, and erases it.
 const ERASE: &str = "\r\x1b[2K";
 
-/// Files, and a line that shows how much of the open one was read, where it takes longer than a second. One window is
-/// scanned before the next is read, so what was scanned is at most a window behind.
+/// A line that shows how much of a file was read, where its reading takes longer than a second.
 #[derive(Drop)]
-pub struct ProgressSource<'a, R, S> {
+struct ProgressLine<'a, R> {
     rt: &'a R,
-    files: S,
-    /// None where nothing is to be shown.
+    /// When the line is due; none where nothing is to be shown.
     next: Option<Instant>,
     read: u64,
     size: u64,
@@ -32,26 +29,25 @@ pub struct ProgressSource<'a, R, S> {
 }
 
 /// How much was read, of how much where the file tells its size, which a pipe doesn't.
-pub fn progress_line(alloc: Global, read: u64, size: u64) -> Result<String, NoMemory> {
+pub fn progress_text(alloc: Global, read: u64, size: u64) -> Result<String, NoMemory> {
     let (read, size) = (read / MEGABYTE, size / MEGABYTE);
-    let line = if size < read {
+    let text = if size < read {
         format!(in alloc; "csvload: {read} MB read")?
     } else {
         format!(in alloc; "csvload: {read} of {size} MB read")?
     };
-    Ok(line)
+    Ok(text)
 }
 
-impl<'a, R: Clock + Eprint + Files + AllocGlobal, S: Source> ProgressSource<'a, R, S> {
-    /// Files of which nothing is shown yet, and never where `shows` is false.
-    pub fn new(rt: &'a R, files: S, shows: bool) -> ProgressSource<'a, R, S> {
+impl<'a, R: Clock + Eprint + Files + AllocGlobal> ProgressLine<'a, R> {
+    /// Nothing was read, and nothing is ever shown where `shows` is false.
+    fn new(rt: &'a R, shows: bool) -> ProgressLine<'a, R> {
         let next = match Instant::now(rt) {
             Ok(now) if shows => now.checked_add(Duration::from_millis(SILENCE)),
             _ => None,
         };
-        ProgressSource {
+        ProgressLine {
             rt,
-            files,
             next,
             read: 0,
             size: 0,
@@ -59,8 +55,18 @@ impl<'a, R: Clock + Eprint + Files + AllocGlobal, S: Source> ProgressSource<'a, 
         }
     }
 
-    /// Shows what was read where a line is due. A line that can't be written is left out.
-    fn show(&mut self) {
+    /// Begins with a file.
+    fn begin(&mut self, name: &str) {
+        self.read = 0;
+        self.size = match fs::metadata(self.rt, name) {
+            Ok(metadata) => metadata.len(),
+            Err(_) => 0,
+        };
+    }
+
+    /// Goes on by so many bytes, and shows them where the line is due. One that can't be written is left out.
+    fn advance(&mut self, count: usize) {
+        self.read = self.read.saturating_add(count as u64);
         let (Some(next), Ok(now)) = (self.next, Instant::now(self.rt)) else {
             return;
         };
@@ -70,17 +76,40 @@ impl<'a, R: Clock + Eprint + Files + AllocGlobal, S: Source> ProgressSource<'a, 
         self.next = now.checked_add(Duration::from_millis(STEP));
         self.shown = true;
         let _ = self.rt.eprint(ERASE);
-        if let Ok(line) = progress_line(self.rt.alloc(), self.read, self.size) {
-            let _ = self.rt.eprint(line);
+        if let Ok(text) = progress_text(self.rt.alloc(), self.read, self.size) {
+            let _ = self.rt.eprint(text);
+        }
+    }
+
+    /// Erases the line, where there is one, and shows none from then on.
+    fn finish(&mut self) {
+        if self.shown {
+            let _ = self.rt.eprint(ERASE);
+        }
+        self.next = None;
+    }
+}
+
+/// Files, and a line that shows how much of the open one was read. One window is scanned before the next is read, so what
+/// was scanned is at most a window behind.
+#[derive(Drop)]
+pub struct ProgressSource<'a, R, S> {
+    files: S,
+    line: ProgressLine<'a, R>,
+}
+
+impl<'a, R: Clock + Eprint + Files + AllocGlobal, S: Source> ProgressSource<'a, R, S> {
+    /// Files of which nothing is shown yet, and never where `shows` is false.
+    pub fn new(rt: &'a R, files: S, shows: bool) -> ProgressSource<'a, R, S> {
+        ProgressSource {
+            files,
+            line: ProgressLine::new(rt, shows),
         }
     }
 
     /// Erases the line, where there is one, and shows none from then on.
     pub fn finish(&mut self) {
-        if self.shown {
-            let _ = self.rt.eprint(ERASE);
-        }
-        self.next = None;
+        self.line.finish();
     }
 }
 
@@ -93,18 +122,13 @@ impl<'a, R: Clock + Eprint + Files + AllocGlobal, S: Source> Source for Progress
 
     fn open(&mut self, name: &str) -> Result<(), Failed> {
         self.files.open(name)?;
-        self.read = 0;
-        self.size = match fs::metadata(self.rt, name) {
-            Ok(metadata) => metadata.len(),
-            Err(_) => 0,
-        };
+        self.line.begin(name);
         Ok(())
     }
 
     fn read(&mut self, buf: &mut [u8]) -> Result<usize, Failed> {
         let count = self.files.read(buf)?;
-        self.read = self.read.saturating_add(count as u64);
-        self.show();
+        self.line.advance(count);
         Ok(count)
     }
 }

@@ -1,13 +1,13 @@
 //! The line on a long reading, and the source that shows it.
-use crate::progress::{ProgressSource, progress_line};
+use crate::progress::{ProgressSource, progress_text};
 use csv_source::{MemorySource, Source};
 use std::test::Fail;
 
 #[test]
 fn a_line_tells_how_much_was_read(rt: HostRuntime) -> Result<(), Fail> {
-    let of_file = progress_line(rt.alloc(), 312_999_999, 400_000_000)?;
+    let of_file = progress_text(rt.alloc(), 312_999_999, 400_000_000)?;
     assert_eq!(rt; of_file.as_str(), "csvload: 312 of 400 MB read");
-    let of_pipe = progress_line(rt.alloc(), 5_000_000, 0)?;
+    let of_pipe = progress_text(rt.alloc(), 5_000_000, 0)?;
     assert_eq!(rt; of_pipe.as_str(), "csvload: 5 MB read");
     Ok(())
 }
