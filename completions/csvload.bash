@@ -31,7 +31,10 @@ _csvload() {
                     COMPREPLY=($(compgen -W 'true false' -- "$value"))
                     ;;
                 types)
-                    COMPREPLY=($(compgen -W 'BOOLEAN BIGINT DATE TIME TIMESTAMP VARCHAR' -- "$value"))
+                    # Of several types the last one is completed.
+                    local before=
+                    [[ $value == *,* ]] && before=${value%,*},
+                    COMPREPLY=($(compgen -P "$before" -W 'BOOLEAN BIGINT DATE TIME TIMESTAMP VARCHAR' -- "${value##*,}"))
                     ;;
                 '')
                     COMPREPLY=($(compgen -W 'delim= quote= escape= comment= header= skip= nullstr= allow_quoted_nulls=

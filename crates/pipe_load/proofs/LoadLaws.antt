@@ -161,8 +161,8 @@ waiting_is_made put waiting h k d lt =
 -- the layout of a load within its limits
 pub layout_lies : (data_start size line : ℕ) → 0 < size → size ≤ 67_108_864 → line ≤ 4_194_304 → data_start ≤ 2 ^ 32 → IsLayout (layout_of data_start size line)
 layout_lies data_start size line positive small rows start =
-    let q : ℕ = line / (64 * size) in
-    let divides : 64 * size * q ≤ line = omega (arith, positive) in
+    let q : ℕ = 2 * line / size in
+    let divides : size * q ≤ 2 * line = omega (arith, positive) in
     let least : q * 1 ≤ q * size = mul-le-mul_left q positive in
     record {
       some = positive;

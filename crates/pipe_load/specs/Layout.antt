@@ -1,18 +1,19 @@
 -- How windows lie in the data, and ranges in a window.
 use Rattle.std.specs.Prelude.{ℕ, ◌+◌, ◌-◌, ◌*◌, ◌/◌, ◌<◌, ◌≤◌, ◌^◌, min, List, length, map, slice_range}
 use Rattle.std.specs.List.{range_with_len}
-use Rattle.range_guess.specs.Cut.{group_len, range_count, range_bounds}
+use Rattle.range_guess.specs.Cut.{range_count, range_bounds}
 use Rattle.range_scan.specs.declared.span.Span.{Span}
 use Rattle.pipe_load.specs.declared.layout.Layout.{Layout}
+use Rattle.pipe_load.specs.declared.layout.TheConstants.{LEAST_RANGES}
 use Rattle.pipe_load.specs.declared.layout.Stretch.{Stretch}
 use Rattle.pipe_load.specs.declared.window.Window.{Window}
 
--- windows cover the least number of whole groups that have more bytes than a row may have, and reach one byte further than a row may past them
+-- windows cover a few ranges and as many more as go into two rows of the most bytes, and reach one byte further than a row may past them
 abbrev pub layout_of : ℕ → ℕ → ℕ → Layout
 layout_of data_start range_size most_line = record {
   data_start = data_start;
   range_size = range_size;
-  ranges = (most_line / (group_len * range_size) + 1) * group_len;
+  ranges = 2 * most_line / range_size + LEAST_RANGES;
   reach = most_line + 1;
 }
 
@@ -22,7 +23,7 @@ pub record IsLayout (l : Layout) : Type 0 where
   pub ranges : 0 < l.ranges
   pub start : l.data_start ≤ 2 ^ 32
   pub size : l.range_size ≤ 67_108_864
-  pub few : l.ranges ≤ 2 ^ 23
+  pub few : l.ranges ≤ 2 ^ 24
   pub short : l.ranges * l.range_size ≤ 2 ^ 33
   pub far : l.reach ≤ 2 ^ 23
 
