@@ -1,10 +1,71 @@
-// The greatest values of options that bound work and memory.
+// The numbers that options take. Code, definitions and messages cite these, so a number of an option stands here alone.
 
-/// The most bytes of a row that an option may allow.
-pub const LINE_SIZE_LIMIT: u64 = 4_194_304;
+/// The numbers that an option takes, and the one that it has where words give none.
+#[derive(Clone, Copy, Debug, PartialEq, Eq)]
+pub struct NumberRange {
+    pub least: u64,
+    pub most: u64,
+    pub default: u64,
+}
 
-/// The most bytes of a range.
-pub const RANGE_SIZE_LIMIT: u64 = 67_108_864;
+/// Lines that are passed over at the start.
+pub const SKIP: NumberRange = NumberRange {
+    least: 0,
+    most: 1_000_000,
+    default: 0,
+};
+
+/// Rows that are looked at.
+pub const SAMPLE_SIZE: NumberRange = NumberRange {
+    least: 1,
+    most: 1_000_000,
+    default: 20_480,
+};
+
+/// Rejects that are listed; 0 lists all.
+pub const REJECTS_LIMIT: NumberRange = NumberRange {
+    least: 0,
+    most: 4_294_967_295,
+    default: 0,
+};
+
+/// Bytes of a row.
+pub const MAX_LINE_SIZE: NumberRange = NumberRange {
+    least: 1,
+    most: 4_194_304,
+    default: 2_097_152,
+};
+
+/// Bytes of an input.
+pub const MAX_INPUT: NumberRange = NumberRange {
+    least: 1,
+    most: 4_294_967_296,
+    default: 1_073_741_824,
+};
+
+/// Workers.
+pub const THREADS: NumberRange = NumberRange {
+    least: 1,
+    most: 64,
+    default: 4,
+};
+
+/// Bytes of a range.
+pub const RANGE_SIZE: NumberRange = NumberRange {
+    least: 1,
+    most: 67_108_864,
+    default: 1_048_576,
+};
 
 /// The most rows that are made.
 pub const ROW_LIMIT: u64 = 10_000_000;
+
+/// Rows that are made.
+pub const ROWS: NumberRange = NumberRange {
+    least: 0,
+    most: ROW_LIMIT,
+    default: 1_000,
+};
+
+/// The most names, or types, of a list.
+pub const COLUMN_LIMIT: usize = 1_000_000;
