@@ -6,8 +6,8 @@ use Rattle.std.proofs.lemmas.List.{get_or-map, length-map}
 use Rattle.std.proofs.lemmas.List.MinMax.{IsFirstBest-keeps, IsFirstBest-none, IsFirstBest-takes, IsFirstBest-unique}
 use Rattle.std.proofs.lemmas.Option.{get_or_from_slice_get, slice_get_within}
 use Rattle.byte_classes.specs.Dialect.{Marks}
-use Rattle.dialect_rank.specs.declared.counts.Score.{Score}
-use Rattle.dialect_rank.specs.declared.scoring.Ranked.{Ranked}
+use Rattle.dialect_rank.specs.declared.scores.Score.{Score}
+use Rattle.dialect_rank.specs.declared.ranked.Ranked.{Ranked}
 use Rattle.dialect_rank.specs.Rank.{is_above, best_place}
 use Rattle.dialect_rank.specs.Ranked.{higher, ranked_of}
 use Rattle.dialect_rank.specs.Score.{score_of}

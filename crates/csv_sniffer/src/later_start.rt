@@ -4,7 +4,7 @@ ghost use Rattle.csv_sniffer.specs.LaterStart.{start_under};
 
 use crate::Sniffed;
 use crate::first_row::{data_start, has_whole_row};
-use crate::rows::SampledRows;
+use crate::sampled_rows::SampledRows;
 use csv_source::NoMemory;
 use dialect_rank::sample_rows;
 use load_options::Options;

@@ -13,7 +13,7 @@ use Rattle.quote_automaton.specs.declared.state.State.{State}
 use Rattle.quote_automaton.specs.declared.state.State.TheVariants.{RowStart}
 use Rattle.quote_automaton.specs.Automaton.{step}
 use Rattle.row_fields.specs.Fields.{Field, fields, fields_from, is_quote, is_quoted, is_separator, put_first, raw_fields, value_of}
-use Rattle.dialect_rank.specs.declared.counts.Score.{Score}
+use Rattle.dialect_rank.specs.declared.scores.Score.{Score}
 use Rattle.dialect_rank.specs.Rank.{truth_number, is_table, is_well_quoted, compare_shares, is_above}
 use Rattle.dialect_rank.specs.Sampled.{Span, sampled_rows, sampled_spans, span_bytes}
 use Rattle.dialect_rank.specs.Score.{closed_fields, field_count, is_sound, score_of, score_rows}

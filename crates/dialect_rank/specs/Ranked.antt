@@ -1,7 +1,7 @@
 -- A dialect with its score, and the higher of two.
 use Rattle.std.specs.Prelude.{ℕ, Bool, List, if◌then◌else◌}
 use Rattle.byte_classes.specs.Dialect.{Marks}
-use Rattle.dialect_rank.specs.declared.scoring.Ranked.{Ranked}
+use Rattle.dialect_rank.specs.declared.ranked.Ranked.{Ranked}
 use Rattle.dialect_rank.specs.Rank.{is_above}
 use Rattle.dialect_rank.specs.Sampled.{sampled_spans}
 use Rattle.dialect_rank.specs.Score.{score_of}

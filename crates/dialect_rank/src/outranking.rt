@@ -7,10 +7,10 @@ ghost use Rattle.dialect_rank.specs.Ranked.{higher, ranked_of};
 ghost use Rattle.dialect_rank.specs.Sampled.{sampled_rows};
 ghost use Rattle.dialect_rank.specs.Score.{field_count, score_of};
 
-use crate::choosing::{is_above, is_table, is_well_quoted};
-use crate::counts::Score;
+use crate::best_place::{is_above, is_table, is_well_quoted};
+use crate::ranked::{Ranked, rank};
 use crate::sampling::Walk;
-use crate::scoring::{Ranked, rank};
+use crate::scores::Score;
 use byte_classes::Dialect;
 use csv_source::NoMemory;
 use row_fields::Fields;

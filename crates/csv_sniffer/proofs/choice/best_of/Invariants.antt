@@ -1,7 +1,0 @@
-use Rattle.std.specs.Prelude.{None}
-use Rattle.dialect_rank.specs.Candidates.{with_delim, no_quote}
-use Rattle.csv_sniffer.proofs.BestRanked.{IsBestBelow}
-use Rattle.csv_sniffer.proofs.choice.best_of.Given as goal
-
-abbrev pub invariant-loop-place : goal.invariant-loop-place
-invariant-loop-place l = IsBestBelow l.sample l.whole l.sample_size l.candidates (with_delim None 44 no_quote) l.place l.best

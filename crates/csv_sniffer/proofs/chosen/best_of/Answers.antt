@@ -1,0 +1,19 @@
+use Rattle.std.proofs.Common.{arith}
+use Rattle.std.specs.Prelude.{None}
+use Rattle.dialect_rank.specs.Candidates.{with_delim, no_quote}
+use Rattle.csv_sniffer.proofs.BestRanked.{best_of_all, best_of_more, best_of_one}
+use Rattle.csv_sniffer.proofs.chosen.best_of.Goals as goal
+
+pub loop-place-init : goal.loop-place-init
+loop-place-init c =
+    best_of_one c.args.sample.now c.args.whole c.args.sample_size c.args.candidates.now (with_delim None 44 no_quote) c.get.result c.in_ok-best.best c.get.ensures c.in_ok-best.ensures
+
+pub loop-place-preserved : goal.loop-place-preserved
+loop-place-preserved c =
+    let so = c.loop-place.invariant in
+    best_of_more c.args.sample.now c.args.whole c.args.sample_size c.args.candidates.now (with_delim None 44 no_quote) c.loop-place.place c.loop-place.best _ c.get-dialect.result c.get-dialect.ensures
+    so.0 so.1 so.2 c.in_ok-best-2.ensures
+
+pub returns : goal.returns
+returns c =
+    best_of_all c.args.sample.now c.args.whole c.args.sample_size c.args.candidates.now (with_delim None 44 no_quote) c.loop-place.place c.loop-place.best (omega arith) c.requires c.loop-place.invariant
