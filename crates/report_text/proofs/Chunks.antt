@@ -1,5 +1,5 @@
 -- Rows that have a text, in a table and in its chunks.
-use Rattle.std.proofs.Common.{◌≡◌, suc, Bool, true, false, List, [], ◌∷◌, ◌++◌, length, subst, sym, ap, refl}
+use Rattle.std.proofs.Common.{◌≡◌, ℕ, suc, ◌<◌, Bool, true, false, List, [], ◌∷◌, ◌++◌, length, get_or, subst, sym, ap, refl}
 use Rattle.std.specs.Prelude.{All, ◌&&◌}
 use Rattle.std.proofs.lemmas.List.Elements.{All-nil, All-cons, All-head, All-tail}
 use Rattle.value_types.specs.declared.types.ColumnType.{ColumnType}
@@ -55,3 +55,7 @@ printable_chunks tys (chunk ∷ chunks) same rows =
     All-cons IsPrintableChunk chunk chunks
     (subst (λ ts. All (IsPrintableRow ts) chunk.rows) (sym (All-head (Has tys) chunk chunks same)) (All-front (IsPrintableRow tys) chunk.rows (rows_in chunks) rows))
     (printable_chunks tys chunks (All-tail (Has tys) chunk chunks same) (All-back (IsPrintableRow tys) chunk.rows (rows_in chunks) rows))
+
+-- the chunk at a place
+pub chunk_at : (chunks : List ChunkView) (k : ℕ) (chunk : ChunkView) → k < length chunks → chunk ≡ get_or chunks k chunk → All IsPrintableChunk chunks → IsPrintableChunk chunk
+chunk_at chunks k chunk inside is all = subst IsPrintableChunk (sym is) (all k chunk inside)

@@ -8,10 +8,12 @@ use crate::Stats;
 use crate::found::push_found;
 use crate::lines::{push_errors, push_row_count, push_stats_of};
 use crate::rejects::{push_scan, push_stored};
-use crate::rows::push_rows;
+use crate::table::push_table;
+use crate::workers::Workers;
 use csv_sniffer::Sniffed;
 use csv_source::NoMemory;
 use file_list::Batch;
+use std::thread::Threads;
 
 /// Appends the scan and the stored rejects of each file, in order.
 fn push_scans(into: &mut Vec<u8>, sniffed: &Sniffed, batch: &Batch) -> Result<(), NoMemory>
@@ -72,7 +74,8 @@ fn all_in(batch: &Batch) -> Result<u64, NoMemory>
 }
 
 /// Appends several loaded files with their rows, under what was found in the first one.
-pub(crate) fn push_batch(
+pub(crate) fn push_batch<R: Threads + Sync>(
+    workers: &Workers<'_, R>,
     into: &mut Vec<u8>,
     sniffed: &Sniffed,
     batch: &Batch,
@@ -83,7 +86,7 @@ pub(crate) fn push_batch(
     ensures { OnOk result (into.new.items ≡ into.old.items ++ batch_lines sniffed.now batch.now store stats.now) }
 {
     push_found(into, sniffed)?;
-    push_rows(into, batch.table())?;
+    push_table(workers, into, batch.table())?;
     push_row_count(into, batch.table().rows())?;
     push_scans_if(into, sniffed, store, batch)?;
     push_errors(into, stored_in(store, batch)?, all_in(batch)?)?;

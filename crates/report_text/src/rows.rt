@@ -1,7 +1,6 @@
 // The lines of rows.
-ghost use Rattle.std.specs.Prelude.{◌≡◌, ◌<◌, ◌++◌, [], flat_map, length, slice_index_or, All, OnOk};
+ghost use Rattle.std.specs.Prelude.{◌≡◌, ◌<◌, ◌≤◌, ◌++◌, [], flat_map, length, slice_index_or, slice_range, All, OnOk};
 ghost use Rattle.value_types.specs.Datum.{datum_of};
-ghost use Rattle.column_store.specs.Stacked.{rows_in};
 ghost use Rattle.report_text.specs.Lines.{cell_text, row_line};
 ghost use Rattle.value_types.specs.Spelled.{IsSpelledCell};
 ghost use Rattle.report_text.specs.PrintableRows.{IsPrintableRow};
@@ -11,7 +10,13 @@ use column_store::{Chunk, Table};
 use csv_source::NoMemory;
 use value_types::{Cell, write_value};
 
+/// About how many bytes so many rows take, by 16 bytes a cell.
+pub(crate) fn rows_room(rows: usize, columns: usize) -> usize {
+    rows.saturating_mul(columns.saturating_mul(16))
+}
+
 /// Appends a cell.
+#[inline(always)]
 fn push_cell(into: &mut Vec<u8>, cell: Cell<'_>) -> Result<(), NoMemory>
     requires { IsSpelledCell (datum_of cell) }
     ensures { OnOk result (into.new.items ≡ into.old.items ++ cell_text (datum_of cell.entry)) }
@@ -41,34 +46,38 @@ fn push_row(into: &mut Vec<u8>, chunk: &Chunk, row: usize) -> Result<(), NoMemor
     Ok(())
 }
 
-/// Appends the lines of a chunk's rows.
-fn push_chunk(into: &mut Vec<u8>, chunk: &Chunk) -> Result<(), NoMemory>
-    requires { All (IsPrintableRow chunk.now.types) chunk.now.rows }
-    ensures { OnOk result (into.new.items ≡ into.old.items ++ flat_map row_line chunk.now.rows) }
+/// Appends the lines of those rows from `from` to before `to` that a chunk has.
+fn push_part(into: &mut Vec<u8>, chunk: &Chunk, from: usize, to: usize) -> Result<(), NoMemory>
+    requires ordered { from ≤ to }
+    requires fits { All (IsPrintableRow chunk.now.types) chunk.now.rows }
+    ensures { OnOk result (into.new.items ≡ into.old.items ++ flat_map row_line (slice_range chunk.now.rows from to)) }
 {
-    for row in 0..chunk.rows() {
+    let rows = chunk.rows();
+    let first = from.min(rows);
+    for row in first..to.min(rows) {
         push_row(into, chunk, row)?;
     }
     Ok(())
 }
 
-/// Appends the lines of the rows of some chunks.
-fn push_chunks(into: &mut Vec<u8>, chunks: &[Chunk]) -> Result<(), NoMemory>
-    requires { All (λ chunk. All (IsPrintableRow chunk.types) chunk.rows) chunks.now }
-    ensures { OnOk result (into.new.items ≡ into.old.items ++ flat_map row_line (rows_in chunks.now)) }
-{
-    for chunk in chunks {
-        push_chunk(into, chunk)?;
-    }
-    Ok(())
-}
-
-/// Appends the lines of a table's rows.
-pub(crate) fn push_rows(into: &mut Vec<u8>, table: &Table) -> Result<(), NoMemory>
-    requires { All (IsPrintableRow table.now.types) table.now.rows }
-    ensures { OnOk result (into.new.items ≡ into.old.items ++ flat_map row_line table.now.rows) }
+/// Appends the lines of the rows from `from` to before `to`, chunk by chunk.
+pub(crate) fn push_rows(
+    into: &mut Vec<u8>,
+    table: &Table,
+    from: usize,
+    to: usize,
+) -> Result<(), NoMemory>
+    requires ordered { from ≤ to }
+    requires fits { All (IsPrintableRow table.now.types) table.now.rows }
+    ensures { OnOk result (into.new.items ≡ into.old.items ++ flat_map row_line (slice_range table.now.rows from to)) }
 {
     let (earlier, last) = table.chunks();
-    push_chunks(into, earlier)?;
-    push_chunk(into, last)
+    let mut low = from;
+    let mut high = to;
+    for chunk in earlier {
+        push_part(into, chunk, low, high)?;
+        low = low.saturating_sub(chunk.rows());
+        high = high.saturating_sub(chunk.rows());
+    }
+    push_part(into, last, low, high)
 }

@@ -16,10 +16,12 @@ use reject_book::{Book, ErrorKind, Keep, Reject};
 use std::alloc::Global;
 use value_types::{Cell, Cells, ColumnType, Names, Types, Value};
 
-const FOUND: &[u8] =
+pub(crate) const FOUND: &[u8] =
     b"options|delim=\\||quote=\"|escape=|newline=\\r\\n|skip=2|header=true\ncolumn|0|BIGINT|id\ncolumn|1|VARCHAR|a\\tb\n";
 
-const ROWS: &[u8] =
+pub(crate) const TEXT: &[u8] = b"34 ordinary bytes stand before \\|\n\r\t\x01\x1f\x7f\xc3";
+
+pub(crate) const ROWS: &[u8] =
     b"row|-7|34 ordinary bytes stand before \\\\\\|\\n\\r\\t\\x01\\x1f\\x7f\xc3\nrow|\\N|\n";
 
 const SCAN: &[u8] = b"scan|0|0|a\\|b.csv|\\||\"||\\r\\n|2|true|2\n";
@@ -29,7 +31,7 @@ const REJECT: &[u8] =
 
 const STATS: &[u8] = b"stats|ranges=4|rescans=1|scanned=4194304\n";
 
-fn sniffed(alloc: Global) -> Result<Sniffed, NoMemory>
+pub(crate) fn sniffed(alloc: Global) -> Result<Sniffed, NoMemory>
     ensures types { IfOk result (λ sniffed. sniffed.types ≡ column.Bigint ∷ column.Varchar ∷ []) }
     ensures names { IfOk result (λ sniffed. length sniffed.names ≡ 2) }
 {
@@ -54,7 +56,12 @@ fn sniffed(alloc: Global) -> Result<Sniffed, NoMemory>
 }
 
 /// Appends a row of a number and a text.
-fn push(table: &mut Table, number: Cell<'_>, text: &[u8], row: &mut Cells) -> Result<(), NoMemory>
+pub(crate) fn push(
+    table: &mut Table,
+    number: Cell<'_>,
+    text: &[u8],
+    row: &mut Cells,
+) -> Result<(), NoMemory>
     requires types { table.old.types ≡ column.Bigint ∷ column.Varchar ∷ [] }
     requires number { fits column.Bigint (datum_of number) ≡ true }
     requires spelled { IsSpelledCell (datum_of number) }
@@ -78,8 +85,7 @@ fn table(alloc: Global, types: &Types) -> Result<Table, NoMemory>
 {
     let mut table = Table::new(alloc, types)?;
     let mut row = Cells::new(alloc);
-    let text = b"34 ordinary bytes stand before \\|\n\r\t\x01\x1f\x7f\xc3";
-    push(&mut table, Cell::Value(Value::Int(-7)), text, &mut row)?;
+    push(&mut table, Cell::Value(Value::Int(-7)), TEXT, &mut row)?;
     push(&mut table, Cell::Null, b"", &mut row)?;
     Ok(table)
 }
@@ -103,7 +109,7 @@ fn reject(alloc: Global) -> Result<Reject, NoMemory> {
 }
 
 /// Two rejects came, and the first is stored.
-fn book(alloc: Global) -> Result<Book, NoMemory> {
+pub(crate) fn book(alloc: Global) -> Result<Book, NoMemory> {
     let mut book = Book::new(alloc, Keep::First(1));
     book.add(reject(alloc)?)?;
     book.add(reject(alloc)?)?;
@@ -166,10 +172,6 @@ fn outcome(alloc: Global, kind: Kind) -> Result<Outcome, NoMemory>
     })
 }
 
-fn text_of(alloc: Global, kind: Kind) -> Result<Vec<u8>, NoMemory> {
-    render(alloc, &outcome(alloc, kind)?)
-}
-
 /// The lines that the loader's manual gives for each kind of report.
 #[test]
 fn a_report_has_these_lines(rt: HostRuntime) -> Result<(), NoMemory> {
@@ -203,7 +205,10 @@ fn a_report_has_these_lines(rt: HostRuntime) -> Result<(), NoMemory> {
         for line in lines {
             expected.extend_from_slice(line)?;
         }
-        assert_eq!(rt; text_of(alloc, kind)?.as_slice(), expected.as_slice());
+        assert_eq!(rt;
+            render(&rt, alloc, &outcome(alloc, kind)?, 4)?.as_slice(),
+            expected.as_slice()
+        );
     }
     Ok(())
 }

@@ -9,13 +9,16 @@ use crate::faults::{push_read_fault, push_refused, push_too_large};
 use crate::found::push_found;
 use crate::lines::{push_errors, push_row_count, push_stats_of};
 use crate::rejects::{push_reject, push_rejects, stored_count};
-use crate::rows::push_rows;
+use crate::rows::rows_room;
+use crate::table::push_table;
+use crate::workers::Workers;
 use crate::{Loaded, Outcome};
 use column_store::Table;
 use csv_sniffer::Sniffed;
 use csv_source::NoMemory;
 use reject_book::Reject;
 use std::alloc::Global;
+use std::thread::Threads;
 
 /// Appends what stands behind the lines on the rows.
 fn push_closing(into: &mut Vec<u8>, loaded: &Loaded, further: &[u8]) -> Result<(), NoMemory>
@@ -29,12 +32,16 @@ fn push_closing(into: &mut Vec<u8>, loaded: &Loaded, further: &[u8]) -> Result<(
 }
 
 /// Appends a loaded file with its rows.
-fn push_loaded(into: &mut Vec<u8>, loaded: &Loaded) -> Result<(), NoMemory>
+fn push_loaded<R: Threads + Sync>(
+    workers: &Workers<'_, R>,
+    into: &mut Vec<u8>,
+    loaded: &Loaded,
+) -> Result<(), NoMemory>
     requires { IsPrintableLoad loaded.now }
     ensures { OnOk result (into.new.items ≡ into.old.items ++ loaded_lines loaded.now (flat_map row_line loaded.now.table.rows) []) }
 {
     push_found(into, &loaded.sniffed)?;
-    push_rows(into, &loaded.table)?;
+    push_table(workers, into, &loaded.table)?;
     push_closing(into, loaded, &[])
 }
 
@@ -57,7 +64,11 @@ fn push_first_error(into: &mut Vec<u8>, sniffed: &Sniffed, reject: &Reject) -> R
 }
 
 /// Appends the text of a report.
-fn push_report(into: &mut Vec<u8>, outcome: &Outcome) -> Result<(), NoMemory>
+fn push_report<R: Threads + Sync>(
+    workers: &Workers<'_, R>,
+    into: &mut Vec<u8>,
+    outcome: &Outcome,
+) -> Result<(), NoMemory>
     requires { IsPrintable outcome.now }
     ensures { OnOk result (into.new.items ≡ into.old.items ++ report_of outcome.now) }
 {
@@ -66,39 +77,42 @@ fn push_report(into: &mut Vec<u8>, outcome: &Outcome) -> Result<(), NoMemory>
         Outcome::ReadFault => push_read_fault(into),
         Outcome::TooLarge(limit) => push_too_large(into, *limit),
         Outcome::Sniffed(sniffed) => push_found(into, sniffed),
-        Outcome::Loaded(loaded) => push_loaded(into, loaded),
+        Outcome::Loaded(loaded) => push_loaded(workers, into, loaded),
         Outcome::Summary(loaded, taps) => push_summary(into, loaded, taps.as_slice()),
         Outcome::Batch(sniffed, batch, store, stats) => {
-            push_batch(into, sniffed, batch, *store, stats)
+            push_batch(workers, into, sniffed, batch, *store, stats)
         }
         Outcome::FirstError(sniffed, reject) => push_first_error(into, sniffed, reject),
     }
 }
 
-/// About how many bytes the rows take, by 16 bytes a cell.
-fn rows_room(table: &Table) -> usize {
-    table
-        .rows()
-        .saturating_mul(table.columns().saturating_mul(16))
+/// About how many bytes a report of a table takes.
+fn table_room(table: &Table) -> usize {
+    rows_room(table.rows(), table.columns()).saturating_add(4096)
 }
 
 /// About how many bytes a report takes.
 fn report_room(outcome: &Outcome) -> usize {
     match outcome {
-        Outcome::Loaded(loaded) => rows_room(&loaded.table).saturating_add(4096),
-        Outcome::Batch(_, batch, ..) => rows_room(batch.table()).saturating_add(4096),
+        Outcome::Loaded(loaded) => table_room(&loaded.table),
+        Outcome::Batch(_, batch, ..) => table_room(batch.table()),
         _ => 4096,
     }
 }
 
-/// The text of a report: its lines, each ended by LF.
-pub fn render(alloc: Global, outcome: &Outcome) -> Result<Vec<u8>, NoMemory>
+/// The text of a report: its lines, each ended by LF. At most so many workers render its rows, one where they are few.
+pub fn render<R: Threads + Sync>(
+    rt: &R,
+    alloc: Global,
+    outcome: &Outcome,
+    threads: u32,
+) -> Result<Vec<u8>, NoMemory>
     requires { IsPrintable outcome.now }
     ensures { IfOk result (λ text. text.items ≡ report_of outcome.now) }
 {
     let mut text = Vec::new(alloc);
     // Where so much can't be had at once, the text may still grow into less.
     let _ = text.reserve(report_room(outcome));
-    push_report(&mut text, outcome)?;
+    push_report(&Workers { rt, alloc, threads }, &mut text, outcome)?;
     Ok(text)
 }

@@ -1,4 +1,4 @@
-use Rattle.std.proofs.Common.{◌≡◌, ◌++◌, List, [], ℕ, length, sym, ap, ◌∙◌, subst, append_assoc}
+use Rattle.std.proofs.Common.{rules, ◌≡◌, ◌++◌, List, [], ℕ, length, sym, ap, ◌∙◌, subst, append_assoc}
 use Rattle.std.specs.Prelude.{All, flat_map}
 use Rattle.std.specs.Option.{option_map_or}
 use Rattle.std.proofs.lemmas.Result.{IfOk-equal}
@@ -10,14 +10,17 @@ use Rattle.report_text.proofs.Chunks.{printable_rows}
 use Rattle.report_text.proofs.FileBooks.{grown}
 use Rattle.report_text.proofs.batch.push_batch.Goals as goal
 
-pub push_rows-requires : goal.push_rows-requires
-push_rows-requires c =
+pub push_table-requires : goal.push_table-requires
+push_table-requires g c =
     let batch = c.args.batch.now in
-    subst (λ tys. All (IsPrintableRow tys) c.table.result.now.rows) (sym (c.table.ensures.types ∙ c.requires.types))
-    (subst (All (IsPrintableRow c.args.sniffed.now.types)) (sym c.table.ensures.rows) (printable_rows c.args.sniffed.now.types batch.rows c.requires.rows c.requires.values))
+    (
+      search rules,
+      subst (λ tys. All (IsPrintableRow tys) c.table.result.now.rows) (sym (c.table.ensures.types ∙ c.requires.types))
+      (subst (All (IsPrintableRow c.args.sniffed.now.types)) (sym c.table.ensures.rows) (printable_rows c.args.sniffed.now.types batch.rows c.requires.rows c.requires.values)),
+    )
 
 pub returns : goal.returns
-returns c =
+returns g c =
     let s = c.args.sniffed.now in
     let batch = c.args.batch.now in
     let before : List ℕ = c.args.into.now.items in
@@ -28,11 +31,11 @@ returns c =
     let errors : List ℕ = errors_line (stored_in c.args.store batch.files) (all_in batch.files) in
     let stats : List ℕ = option_map_or stats_line c.args.stats.now [] in
     let t1 : List ℕ = c.push_found.new.into.items in
-    let t2 : List ℕ = c.push_rows.new.into.items in
+    let t2 : List ℕ = c.push_table.new.into.items in
     let t3 : List ℕ = c.push_row_count.new.into.items in
     let t4 : List ℕ = c.push_scans_if.new.into.items in
     let t5 : List ℕ = c.push_errors.new.into.items in
-    let p2 : t2 ≡ before ++ (found ++ rows) = grown before found rows t1 t2 c.in_ok-push_found.ensures (c.in_ok-push_rows.ensures ∙ ap (λ rs. t1 ++ flat_map row_line rs) c.table.ensures.rows) in
+    let p2 : t2 ≡ before ++ (found ++ rows) = grown before found rows t1 t2 c.in_ok-push_found.ensures (c.in_ok-push_table.ensures ∙ ap (λ rs. t1 ++ flat_map row_line rs) c.table.ensures.rows) in
     let p3 : t3 ≡ before ++ (found ++ rows ++ count) = grown before (found ++ rows) count t2 t3 p2 (c.in_ok-push_row_count.ensures ∙ ap (λ n. t2 ++ rows_line n) (c.rows.ensures ∙ ap length c.table-2.ensures.rows)) in
     let p4 : t4 ≡ before ++ (found ++ rows ++ count ++ scans) = grown before (found ++ rows ++ count) scans t3 t4 p3 c.in_ok-push_scans_if.ensures in
     let p5 : t5 ≡ before ++ (found ++ rows ++ count ++ scans ++ errors) = grown before (found ++ rows ++ count ++ scans) errors t4 t5 p4

@@ -1,0 +1,18 @@
+use Rattle.std.proofs.Common.{◌++◌, ap, ◌∙◌, arith}
+use Rattle.std.specs.Prelude.{flat_map}
+use Rattle.report_text.specs.Lines.{row_line}
+use Rattle.report_text.proofs.Ranges.{range-cut}
+use Rattle.report_text.proofs.RowTexts.{line_appended}
+use Rattle.report_text.proofs.rows.push_part.Goals as goal
+
+pub loop-row-preserved : goal.loop-row-preserved
+loop-row-preserved c =
+    line_appended c.args.chunk.now.rows c.min-first.result c.loop-row.row c.args.into.now.items c.loop-row.into.items c.push_row.new.into.items
+    (omega arith) (omega arith) c.loop-row.invariant c.in_ok-push_row.ensures
+
+pub returns : goal.returns
+returns c =
+    let rows = c.args.chunk.now.rows in
+    c.loop-row.invariant
+    ∙ ap (λ rs. c.args.into.now.items ++ flat_map row_line rs)
+    (range-cut rows c.args.from c.args.to c.min-first.result c.loop-row.row c.requires.ordered (omega arith) (omega arith))
