@@ -1,5 +1,5 @@
 -- One more range of the data is joined.
-use Rattle.std.proofs.Common.{◌≡◌, ℕ, ◌+◌, ◌-◌, ◌*◌, ◌%◌, ◌≤◌, min, Bool, true, false, not, ◌&&◌, cond, List, [], ◌∷◌, ◌++◌, map, length, take, drop, refl, sym, ap, ◌∙◌, arith, length-append, length-take, length-drop, eq-eqb}
+use Rattle.std.proofs.Common.{◌≡◌, ℕ, ◌+◌, ◌-◌, ◌*◌, ◌%◌, ◌≤◌, min, Bool, true, false, not, ◌&&◌, cond, List, [], ◌∷◌, ◌++◌, map, length, take, drop, refl, sym, ap, subst, ◌∙◌, arith, length-append, length-take, length-drop, eq-eqb}
 use Rattle.std.specs.Prelude.{◌==◌, filter, sum_by}
 use Rattle.std.specs.List.{range_with_len}
 use Rattle.std.proofs.lemmas.List.Elements.{filter-append}
@@ -11,20 +11,21 @@ use Rattle.quote_automaton.specs.declared.state.State.TheVariants.{RowStart}
 use Rattle.quote_automaton.specs.Automaton.{number, same_state, state_after}
 use Rattle.value_types.specs.Datum.{Datum}
 use Rattle.reject_book.specs.declared.reject.Reject.{Reject}
-use Rattle.reject_book.specs.Kept.{book_of, raised, joined as books_joined}
-use Rattle.reject_book.proofs.KeptFronts.{joined_is_book}
+use Rattle.reject_book.specs.Kept.{raised}
 use Rattle.range_guess.specs.Cut.{group_len}
 use Rattle.range_guess.specs.Guess.{guess}
 use Rattle.byte_classes.specs.Places.{byte_before}
 use Rattle.range_guess.specs.Rescans.{range_bytes, first_opening, true_opening}
 use Rattle.range_scan.specs.declared.context.Context.{Context}
 use Rattle.range_scan.specs.declared.span.Span.{Span}
+use Rattle.range_scan.specs.Joined.{IsJoinedPart, IsOfRange, IsAppended}
 use Rattle.range_scan.specs.Part.{Part, part_of, join}
-use Rattle.range_scan.specs.Scanned.{judge_in, span_part, scanned}
+use Rattle.range_scan.specs.Scanned.{Scanned, judge_in, span_part, scanned}
+use Rattle.range_scan.proofs.JoinedParts.{range_is_part, appended_is_part}
 use Rattle.range_scan.proofs.JoinLaws.{part_of-join}
 use Rattle.range_scan.proofs.JudgeLaws.{rows_are_judged_alike}
-use Rattle.pipe_load.specs.declared.joining.Joined.{Joined}
-use Rattle.pipe_load.specs.Joining.{AddsRange, IsCounted, IsAdded, IsJoinedTo, front_end, front_part, wrong_ranges, is_again}
+use Rattle.pipe_load.specs.declared.joining.Counted.{Counted}
+use Rattle.pipe_load.specs.Joining.{AddsRange, IsJoinedTo, front_end, front_part, wrong_ranges, is_again}
 use Rattle.pipe_load.specs.Scanning.{opening_of}
 
 same_state-refl : (s : State) → same_state s s ≡ true
@@ -81,40 +82,35 @@ module _ (context : Context) (text : List ℕ) (base size j : ℕ) (inside : j *
       (part_is : (s : State) → span_part context bytes window_base span s ≡ part_of (judge_in context) d text base (front_end text size j) (front_end text size (j + 1)) s)
       (width_is : span.to - span.from ≡ width j)
       (guess_is : (j % group_len == 0) ≡ false → opening_of d bytes span ≡ guess d (range_bytes text size j) (byte_before text (j * size)))
-      (old new : Joined) (h : IsJoinedTo context text base size j old) (adds : AddsRange context bytes window_base span old new) where
-    state_is : old.end ≡ true_opening d text size j
-    state_is = h.end ∙ ap (λ n. state_after d RowStart (take n text)) (let e : front_end text size j - 0 ≡ j * size = omega (arith, inside) in e)
+      (old new : Counted) (h : IsJoinedTo context text base size j old) (adds : AddsRange context bytes window_base span old new) where
+    state_is : old.joined.end ≡ true_opening d text size j
+    state_is = h.part.end ∙ ap (λ n. state_after d RowStart (take n text)) (let e : front_end text size j - 0 ≡ j * size = omega (arith, inside) in e)
 
     again_is : is_again old (opening_of d bytes span) ≡ is_wrong j
-    again_is = ap (λ n. not (n % group_len == 0) && not (same_state (opening_of d bytes span) old.end)) h.ranges ∙ by_test (j % group_len == 0) refl
+    again_is = ap (λ n. not (n % group_len == 0) && not (same_state (opening_of d bytes span) old.joined.end)) h.ranges ∙ by_test (j % group_len == 0) refl
       where
-        by_test : (c : Bool) → (j % group_len == 0) ≡ c → (not c && not (same_state (opening_of d bytes span) old.end))
+        by_test : (c : Bool) → (j % group_len == 0) ≡ c → (not c && not (same_state (opening_of d bytes span) old.joined.end))
             ≡ not (same_state (cond c (true_opening d text size j) (guess d (range_bytes text size j) (byte_before text (j * size)))) (true_opening d text size j))
         by_test true e = sym (ap not (same_state-refl (true_opening d text size j)))
         by_test false e = λ i. not (same_state (guess_is e i) (state_is i))
 
     pub next_range : IsJoinedTo context text base size (j + 1) new
     next_range =
-        let counted : Joined = adds.counted in
-        let c : IsCounted (opening_of d bytes span) (span.to - span.from) old counted = adds.counts in
-        let a : IsAdded (scanned context bytes window_base span old.end) counted new = adds.adds in
-        let q : Part (List Datum) Reject = span_part context bytes window_base span old.end in
-        let next : join raised (front j) q ≡ front (j + 1) = ap (join raised (front j)) (part_is old.end) ∙ front-more old.end h.end in
-        let rows_were : counted.table.rows ≡ (front j).cells = ap (λ (r : Joined). r.table.rows) c.same ∙ h.rows in
-        let book_was : counted.book ≡ book_of context.keep (front j).faults = ap (λ (r : Joined). r.book) c.same ∙ h.book in
-        let lines_were : counted.line_ends ≡ (front j).line_ends = ap (λ (r : Joined). r.line_ends) c.same ∙ h.line_ends in
+        let q : Part (List Datum) Reject = span_part context bytes window_base span old.joined.end in
+        let scan : Scanned = scanned context bytes window_base span old.joined.end in
+        let range : IsOfRange scan (is_again old (opening_of d bytes span)) (span.to - span.from) adds.next = adds.of in
+        let is : IsAppended adds.next old.joined new.joined = adds.adds in
+        let next : join raised (front j) q ≡ front (j + 1) = ap (join raised (front j)) (part_is old.joined.end) ∙ front-more old.joined.end h.part.end in
+        let one : IsJoinedPart context q adds.next =
+        range_is_part context span.number old.joined.end q scan (is_again old (opening_of d bytes span)) (span.to - span.from) adds.next refl range in
+        let count_one : adds.next.rescans ≡ cond {A = ℕ} (is_wrong j) 1 0 = range.rescans ∙ ap (λ (b : Bool). cond {A = ℕ} b 1 0) again_is in
+        let bytes_one : adds.next.rescanned ≡ cond {A = ℕ} (is_wrong j) (width j) 0 = range.rescanned ∙ (λ i. cond {A = ℕ} (again_is i) (width_is i) 0) in
         record {
-          end = a.end ∙ ap (λ (p : Part (List Datum) Reject). p.end) next;
-          types = a.types ∙ ap (λ (r : Joined). r.table.types) c.same ∙ h.types;
-          rows = a.rows ∙ ap (λ rs. rs ++ q.cells) rows_were ∙ ap (λ (p : Part (List Datum) Reject). p.cells) next;
-          book = a.book ∙ (λ i. books_joined (lines_were i) (book_was i) (book_of context.keep q.faults))
-              ∙ joined_is_book context.keep (front j).line_ends (front j).faults q.faults
-              ∙ ap (λ (p : Part (List Datum) Reject). book_of context.keep p.faults) next;
-          line_ends = a.line_ends ∙ ap (λ n. n + q.line_ends) lines_were ∙ ap (λ (p : Part (List Datum) Reject). p.line_ends) next;
-          ranges = ap (λ (r : Joined). r.ranges) a.same ∙ c.ranges ∙ ap (λ n. n + 1) h.ranges;
-          bytes = ap (λ (r : Joined). r.length) a.same ∙ c.more ∙ (λ i. h.bytes i + width_is i) ∙ lengths;
-          rescans = ap (λ (r : Joined). r.rescans) a.same ∙ c.rescans ∙ (λ i. h.rescans i + cond (again_is i) 1 0) ∙ sym count-more;
-          rescanned = ap (λ (r : Joined). r.rescanned) a.same ∙ c.rescanned ∙ (λ i. h.rescanned i + cond (again_is i) (width_is i) 0) ∙ sym bytes-more;
+          part = subst (λ (p : Part (List Datum) Reject). IsJoinedPart context p new.joined) next (appended_is_part context (front j) q adds.next old.joined new.joined h.part one is);
+          ranges = adds.ranges ∙ ap (λ n. n + 1) h.ranges;
+          bytes = adds.more ∙ (λ i. h.bytes i + width_is i) ∙ lengths;
+          rescans = is.rescans ∙ (λ i. h.rescans i + count_one i) ∙ sym count-more;
+          rescanned = is.rescanned ∙ (λ i. h.rescanned i + bytes_one i) ∙ sym bytes-more;
         }
       where
         lengths : front_end text size j + width j ≡ front_end text size (j + 1)

@@ -10,16 +10,16 @@ use Rattle.pipe_load.specs.Feeding.{AreNumbered}
 use Rattle.quote_automaton.specs.declared.state.State.TheVariants.{RowStart}
 use Rattle.range_guess.specs.Cut.{range_count}
 use Rattle.range_scan.specs.declared.context.Context.{Context}
+use Rattle.range_scan.specs.Joined.{IsJoinedPart, IsBegun}
 use Rattle.range_scan.specs.Part.{Part, part_of, no_part}
 use Rattle.range_scan.specs.Scanned.{judge_in}
 use Rattle.range_scan.proofs.RangeLaws.{count_covers, no_part_at}
 use Rattle.value_types.specs.Datum.{Datum}
 use Rattle.reject_book.specs.declared.reject.Reject.{Reject}
-use Rattle.reject_book.specs.Kept.{book_of}
-use Rattle.pipe_load.specs.declared.joining.Joined.{Joined}
+use Rattle.pipe_load.specs.declared.joining.Counted.{Counted}
 use Rattle.pipe_load.specs.declared.layout.Layout.{Layout}
 use Rattle.pipe_load.specs.declared.window.Window.{Window}
-use Rattle.pipe_load.specs.Joining.{IsBegun, AddsRanges, IsJoinedTo, front_part, stretch_len}
+use Rattle.pipe_load.specs.Joining.{AddsRanges, IsJoinedTo, front_part, stretch_len}
 use Rattle.pipe_load.specs.Loading.{data_read}
 use Rattle.window_load.specs.DataRead.{IsDataRead}
 use Rattle.pipe_load.specs.Layout.{IsLayout, stride, want, window_start, window_of, windows_of, stretch_of, layout_of}
@@ -79,7 +79,7 @@ module _ (context : Context) (l : Layout) (layout : IsLayout l) (text : List ℕ
       let below : k * r ≤ all = le_of_mul-le-mul_right few layout.some in omega (arith, below)
 
   -- one window more
-  pub next_window : (k : ℕ) (w : Window) (old new : Joined) → w ≡ window_of l text k → k * stride l < length text → l.reach ≡ context.schema.max_line_size + 1 →
+  pub next_window : (k : ℕ) (w : Window) (old new : Counted) → w ≡ window_of l text k → k * stride l < length text → l.reach ≡ context.schema.max_line_size + 1 →
       AddsRanges context l w (stretch_len l w) old new → IsJoinedTo context text l.data_start z (min (k * r) all) old → IsJoinedTo context text l.data_start z (min ((k + 1) * r) all) new
   next_window k w old new is inside reach adds h =
       let far : 0 < l.reach = omega (arith, reach) in
@@ -88,26 +88,22 @@ module _ (context : Context) (l : Layout) (layout : IsLayout l) (text : List ℕ
       subst (λ j. IsJoinedTo context text l.data_start z j new) there (adds.joins text k is inside reach before)
 
   -- no window yet
-  pub first_window : (new : Joined) → IsBegun context new → IsJoinedTo context text l.data_start z (min (0 * r) all) new
-  first_window new h =
+  pub first_window : (new : Counted) → IsBegun context RowStart new.joined → new.ranges ≡ 0 → new.length ≡ 0 → IsJoinedTo context text l.data_start z (min (0 * r) all) new
+  first_window new h ranges bytes =
       let none : min (0 * r) all ≡ 0 = omega arith in
       let empty : 0 ≡ min (0 * z) (length text) = omega arith in
-      let part : no_part RowStart ≡ front_part context text l.data_start z 0 =
+      let nothing : no_part RowStart ≡ front_part context text l.data_start z 0 =
       no_part_at (judge_in context) context.dialect text l.data_start 0 RowStart ∙ ap (λ to. part_of (judge_in context) context.dialect text l.data_start 0 to RowStart) empty in
       subst (λ j. IsJoinedTo context text l.data_start z j new) (sym none) record {
-        end = h.end ∙ ap (λ (p : Part (List Datum) Reject). p.end) part;
-        types = h.types;
-        rows = h.rows ∙ ap (λ (p : Part (List Datum) Reject). p.cells) part;
-        book = h.book ∙ ap (λ (p : Part (List Datum) Reject). book_of context.keep p.faults) part;
-        line_ends = h.line_ends ∙ ap (λ (p : Part (List Datum) Reject). p.line_ends) part;
-        ranges = h.ranges;
-        bytes = h.bytes ∙ empty;
+        part = subst (λ (p : Part (List Datum) Reject). IsJoinedPart context p new.joined) nothing h.part;
+        ranges = ranges;
+        bytes = bytes ∙ empty;
         rescans = h.rescans;
         rescanned = h.rescanned;
       }
 
   -- all windows
-  pub last_window : (count : ℕ) (new : Joined) → length text ≤ count * stride l → IsJoinedTo context text l.data_start z (min (count * r) all) new → IsJoinedTo context text l.data_start z all new
+  pub last_window : (count : ℕ) (new : Counted) → length text ≤ count * stride l → IsJoinedTo context text l.data_start z (min (count * r) all) new → IsJoinedTo context text l.data_start z all new
   last_window count new covered h =
       let at_most : all ≤ count * r = count_within_all in
       subst (λ j. IsJoinedTo context text l.data_start z j new) (let e : min (count * r) all ≡ all = omega (arith, at_most) in e) h
@@ -117,18 +113,19 @@ module _ (context : Context) (l : Layout) (layout : IsLayout l) (text : List ℕ
           let e : all ≡ min (count * r) all = ap (λ n. range_count n z) text_is ∙ count_at_most (length text) z (count * r) layout.some in omega (arith, e)
 
   -- all ranges are the data
-  pub all_read : (joined : Joined) → IsJoinedTo context text l.data_start z all joined → IsDataRead context text l.data_start z (data_read joined)
-  all_read joined h =
+  pub all_read : (counted : Counted) → IsJoinedTo context text l.data_start z all counted → IsDataRead context text l.data_start z (data_read counted)
+  all_read counted h =
       let covers : length text ≤ all * z = count_covers (length text) z layout.some in
       let front : min (all * z) (length text) ≡ length text = omega (arith, covers) in
       let part : front_part context text l.data_start z all ≡ part_of (judge_in context) context.dialect text l.data_start 0 (length text) RowStart =
       ap (λ to. part_of (judge_in context) context.dialect text l.data_start 0 to RowStart) front in
+      let whole = subst (λ (p : Part (List Datum) Reject). IsJoinedPart context p counted.joined) part h.part in
       record {
-        end = h.end ∙ ap (λ (p : Part (List Datum) Reject). p.end) part;
-        types = h.types;
-        rows = h.rows ∙ ap (λ (p : Part (List Datum) Reject). p.cells) part;
-        book = h.book ∙ ap (λ (p : Part (List Datum) Reject). book_of context.keep p.faults) part;
-        line_ends = h.line_ends ∙ ap (λ (p : Part (List Datum) Reject). p.line_ends) part;
+        end = whole.end;
+        types = whole.types;
+        rows = whole.rows;
+        book = whole.book;
+        line_ends = whole.line_ends;
         bytes = h.bytes ∙ front;
         ranges = h.ranges;
         rescanned_ranges = h.rescans;

@@ -20,7 +20,7 @@ use Rattle.range_scan.specs.declared.span.Span.{Span}
 use Rattle.range_scan.specs.Part.{part_of}
 use Rattle.range_scan.specs.Scanned.{Scanned, judge_in, span_part}
 use Rattle.range_scan.proofs.JudgeLaws.{first_bytes_decide}
-use Rattle.pipe_load.specs.declared.joining.Joined.{Joined}
+use Rattle.pipe_load.specs.declared.joining.Counted.{Counted}
 use Rattle.pipe_load.specs.declared.layout.Layout.{Layout}
 use Rattle.pipe_load.specs.declared.layout.Stretch.{Stretch}
 use Rattle.pipe_load.specs.declared.window.Window.{Window}
@@ -219,15 +219,15 @@ module _ (context : Context) (l : Layout) (layout : IsLayout l) (text : List ℕ
       by_test true e = let none : j ≡ 0 = eqb-true j 0 e in
           let first : (j % group_len == 0) ≡ true = ap (λ m. m % group_len == 0) none in absurd (let never : true ≡ false = sym first ∙ later in cc)
 
-  pub next_of_window : (old new : Joined) → IsJoinedTo context text l.data_start z j old → AddsRange context w.bytes st.base span old new → IsJoinedTo context text l.data_start z (j + 1) new
+  pub next_of_window : (old new : Counted) → IsJoinedTo context text l.data_start z j old → AddsRange context w.bytes st.base span old new → IsJoinedTo context text l.data_start z (j + 1) new
   next_of_window old new h adds = next_range context text l.data_start z j in_data w.bytes st.base span part_is width_is guess_is old new h adds
 
 -- one range more of a window
-pub adds_more : (context : Context) (l : Layout) (w : Window) (n : ℕ) (old mid new : Joined) → IsLayout l → n < stretch_len l w →
+pub adds_more : (context : Context) (l : Layout) (w : Window) (n : ℕ) (old mid new : Counted) → IsLayout l → n < stretch_len l w →
     AddsRanges context l w n old mid → AddsRange context w.bytes (stretch_of l w).base (span_of (stretch_of l w) n) mid new → AddsRanges context l w (n + 1) old new
 adds_more context l w n old mid new layout below h adds = record {
-  types = adds.adds.types ∙ ap (λ (r : Joined). r.table.types) adds.counts.same ∙ h.types;
-  keep = ap (λ b. b.keep) adds.adds.book ∙ ap (λ (r : Joined). r.book.keep) adds.counts.same ∙ h.keep;
+  types = adds.adds.types ∙ h.types;
+  keep = ap (λ b. b.keep) adds.adds.book ∙ h.keep;
   joins = λ text k is begins reach before.
       let same : k * l.ranges + n + 1 ≡ k * l.ranges + (n + 1) = omega arith in
       let under : n < stretch_len l (window_of l text k) = subst (λ (x : Window). n < stretch_len l x) is below in
@@ -238,7 +238,7 @@ adds_more context l w n old mid new layout below h adds = record {
 }
 
 -- no range yet
-pub adds_none : (context : Context) (l : Layout) (w : Window) (old : Joined) → old.table.types ≡ context.schema.types → old.book.keep ≡ context.keep → AddsRanges context l w 0 old old
+pub adds_none : (context : Context) (l : Layout) (w : Window) (old : Counted) → old.joined.table.types ≡ context.schema.types → old.joined.book.keep ≡ context.keep → AddsRanges context l w 0 old old
 adds_none context l w old types keep = record {
   types = types;
   keep = keep;

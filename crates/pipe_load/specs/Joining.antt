@@ -1,5 +1,5 @@
 -- What is joined so far: the ranges of the data up to a place, each in its true state (Ge et al. 2019).
-use Rattle.std.specs.Prelude.{◌≡◌, ℕ, ◌+◌, ◌-◌, ◌*◌, ◌%◌, ◌<◌, min, Bool, not, ◌&&◌, ◌==◌, cond, map, filter, sum_by, List, [], ◌++◌, length}
+use Rattle.std.specs.Prelude.{◌≡◌, ℕ, ◌+◌, ◌-◌, ◌*◌, ◌%◌, ◌<◌, min, Bool, not, ◌&&◌, ◌==◌, map, filter, sum_by, List, length}
 use Rattle.std.specs.List.{range_with_len}
 use Rattle.byte_classes.specs.Dialect.{Marks}
 use Rattle.quote_automaton.specs.declared.state.State.{State}
@@ -7,14 +7,15 @@ use Rattle.quote_automaton.specs.declared.state.State.TheVariants.{RowStart}
 use Rattle.quote_automaton.specs.Automaton.{same_state}
 use Rattle.value_types.specs.Datum.{Datum}
 use Rattle.reject_book.specs.declared.reject.Reject.{Reject}
-use Rattle.reject_book.specs.Kept.{book_of, joined as books_joined}
 use Rattle.range_guess.specs.Cut.{group_len}
 use Rattle.range_guess.specs.Rescans.{first_opening, true_opening, range_bytes}
 use Rattle.range_scan.specs.declared.context.Context.{Context}
+use Rattle.range_scan.specs.declared.joined.Joined.{Joined}
 use Rattle.range_scan.specs.declared.span.Span.{Span}
+use Rattle.range_scan.specs.Joined.{IsJoinedPart, IsOfRange, IsAppended}
 use Rattle.range_scan.specs.Part.{Part, part_of}
 use Rattle.range_scan.specs.Scanned.{Scanned, judge_in, scanned}
-use Rattle.pipe_load.specs.declared.joining.Joined.{Joined}
+use Rattle.pipe_load.specs.declared.joining.Counted.{Counted}
 use Rattle.pipe_load.specs.declared.layout.Layout.{Layout}
 use Rattle.pipe_load.specs.declared.window.Window.{Window}
 use Rattle.pipe_load.specs.Layout.{stretch_of, stretch_count, window_of}
@@ -22,44 +23,17 @@ use Rattle.pipe_load.specs.Scanning.{opening_of, guessed_part}
 
 -- ---- one range
 
--- nothing is joined
-pub record IsBegun (context : Context) (new : Joined) : Type 0 where
-  pub end : new.end ≡ RowStart
-  pub types : new.table.types ≡ context.schema.types
-  pub rows : new.table.rows ≡ []
-  pub book : new.book ≡ book_of context.keep []
-  pub line_ends : new.line_ends ≡ 0
-  pub ranges : new.ranges ≡ 0
-  pub bytes : new.length ≡ 0
-  pub rescans : new.rescans ≡ 0
-  pub rescanned : new.rescanned ≡ 0
-
 -- whether the next range counts as scanned again: it isn't the first of its group, and was opened in another state than the true one
-abbrev pub is_again : Joined → State → Bool
-is_again old opened = not (old.ranges % group_len == 0) && not (same_state opened old.end)
-
--- a range is counted
-pub record IsCounted (opened : State) (bytes : ℕ) (old new : Joined) : Type 0 where
-  pub ranges : new.ranges ≡ old.ranges + 1
-  pub more : new.length ≡ old.length + bytes
-  pub rescans : new.rescans ≡ old.rescans + cond (is_again old opened) 1 0
-  pub rescanned : new.rescanned ≡ old.rescanned + cond (is_again old opened) bytes 0
-  pub same : new ≡ record old { ranges = new.ranges; length = new.length; rescans = new.rescans; rescanned = new.rescanned }
-
--- the part of the next range is joined
-pub record IsAdded (part : Scanned) (old new : Joined) : Type 0 where
-  pub end : new.end ≡ part.end
-  pub types : new.table.types ≡ old.table.types
-  pub rows : new.table.rows ≡ old.table.rows ++ part.rows
-  pub book : new.book ≡ books_joined old.line_ends old.book part.book
-  pub line_ends : new.line_ends ≡ old.line_ends + part.line_ends
-  pub same : new ≡ record old { end = new.end; table = new.table; book = new.book; line_ends = new.line_ends }
+abbrev pub is_again : Counted → State → Bool
+is_again old opened = not (old.ranges % group_len == 0) && not (same_state opened old.joined.end)
 
 -- a range of a window is joined in the state in which the one before it ends, and counted
-pub record AddsRange (context : Context) (bytes : List ℕ) (base : ℕ) (span : Span) (old new : Joined) : Type 0 where
-  pub counted : Joined
-  pub counts : IsCounted (opening_of context.dialect bytes span) (span.to - span.from) old counted
-  pub adds : IsAdded (scanned context bytes base span old.end) counted new
+pub record AddsRange (context : Context) (bytes : List ℕ) (base : ℕ) (span : Span) (old new : Counted) : Type 0 where
+  pub next : Joined
+  pub of : IsOfRange (scanned context bytes base span old.joined.end) (is_again old (opening_of context.dialect bytes span)) (span.to - span.from) next
+  pub adds : IsAppended next old.joined new.joined
+  pub ranges : new.ranges ≡ old.ranges + 1
+  pub more : new.length ≡ old.length + (span.to - span.from)
 
 -- ---- the data up to a range
 
@@ -73,16 +47,12 @@ front_part context text base size j = part_of (judge_in context) context.dialect
 abbrev pub wrong_ranges : Marks → List ℕ → ℕ → ℕ → List ℕ
 wrong_ranges d text size j = filter (λ i. not (same_state (first_opening d text size i) (true_opening d text size i))) (range_with_len 0 j)
 
-pub record IsJoinedTo (context : Context) (text : List ℕ) (base size j : ℕ) (new : Joined) : Type 0 where
-  pub end : new.end ≡ (front_part context text base size j).end
-  pub types : new.table.types ≡ context.schema.types
-  pub rows : new.table.rows ≡ (front_part context text base size j).cells
-  pub book : new.book ≡ book_of context.keep (front_part context text base size j).faults
-  pub line_ends : new.line_ends ≡ (front_part context text base size j).line_ends
+pub record IsJoinedTo (context : Context) (text : List ℕ) (base size j : ℕ) (new : Counted) : Type 0 where
+  pub part : IsJoinedPart context (front_part context text base size j) new.joined
   pub ranges : new.ranges ≡ j
   pub bytes : new.length ≡ front_end text size j
-  pub rescans : new.rescans ≡ length (wrong_ranges context.dialect text size j)
-  pub rescanned : new.rescanned ≡ sum_by (λ i. length (range_bytes text size i)) (wrong_ranges context.dialect text size j)
+  pub rescans : new.joined.rescans ≡ length (wrong_ranges context.dialect text size j)
+  pub rescanned : new.joined.rescanned ≡ sum_by (λ i. length (range_bytes text size i)) (wrong_ranges context.dialect text size j)
 
 -- ---- windows
 
@@ -90,9 +60,9 @@ abbrev pub stretch_len : Layout → Window → ℕ
 stretch_len l w = stretch_count (stretch_of l w)
 
 -- n ranges of a window are joined: of window k of any data whose first k windows' ranges were joined, these and n more are joined
-pub record AddsRanges (context : Context) (l : Layout) (w : Window) (n : ℕ) (old new : Joined) : Type 0 where
-  pub types : new.table.types ≡ context.schema.types
-  pub keep : new.book.keep ≡ context.keep
+pub record AddsRanges (context : Context) (l : Layout) (w : Window) (n : ℕ) (old new : Counted) : Type 0 where
+  pub types : new.joined.table.types ≡ context.schema.types
+  pub keep : new.joined.book.keep ≡ context.keep
   pub joins : (text : List ℕ) (k : ℕ) → w ≡ window_of l text k → k * (l.ranges * l.range_size) < length text → l.reach ≡ context.schema.max_line_size + 1 →
       IsJoinedTo context text l.data_start l.range_size (k * l.ranges) old → IsJoinedTo context text l.data_start l.range_size (k * l.ranges + n) new
 

@@ -4,7 +4,7 @@ use Rattle.std.specs.Io.KnownBytes.{Consumes, IsAtEnd}
 use Rattle.range_scan.specs.declared.context.Context.{Context}
 use Rattle.window_load.specs.declared.data_read.DataRead.{DataRead}
 use Rattle.window_load.specs.DataRead.{IsDataRead}
-use Rattle.pipe_load.specs.declared.joining.Joined.{Joined}
+use Rattle.pipe_load.specs.declared.joining.Counted.{Counted}
 use Rattle.pipe_load.specs.declared.layout.Layout.{Layout}
 
 -- windows reach one byte further past their ranges than a row may
@@ -12,16 +12,16 @@ abbrev pub HasReach : Context → Layout → Type 0
 HasReach context l = l.reach ≡ context.schema.max_line_size + 1
 
 -- what is joined, as it is handed out
-abbrev pub data_read : Joined → DataRead
-data_read joined = record {
-  end = joined.end;
-  table = joined.table;
-  book = joined.book;
-  line_ends = joined.line_ends;
-  length = joined.length;
-  ranges = joined.ranges;
-  rescans = joined.rescans;
-  rescanned = joined.rescanned;
+abbrev pub data_read : Counted → DataRead
+data_read counted = record {
+  end = counted.joined.end;
+  table = counted.joined.table;
+  book = counted.joined.book;
+  line_ends = counted.joined.line_ends;
+  length = counted.length;
+  ranges = counted.ranges;
+  rescans = counted.joined.rescans;
+  rescanned = counted.joined.rescanned;
 }
 
 -- all data are read: the head and then what came of the source, fewer bytes than there was room for; nothing is left

@@ -5,22 +5,26 @@ ghost use Rattle.range_scan.specs.declared.context.Context.{Context};
 ghost use Rattle.window_load.specs.DataRead.{IsDataRead, IsWindowRead};
 ghost use Rattle.pipe_load.specs.Loading.{data_read};
 
-use crate::joining::Joined;
+use crate::joining::Counted;
 use csv_source::NoMemory;
+use range_scan::Joined;
 use std::alloc::Global;
 use window_load::{DataRead, WindowRead, first_reject};
 
 /// What all ranges come to.
-pub fn data_read(joined: Joined) -> DataRead
-    ensures { result ≡ data_read joined }
+pub fn data_read(counted: Counted) -> DataRead
+    ensures { result ≡ data_read counted }
 {
+    let Counted {
+        joined,
+        ranges,
+        length,
+    } = counted;
     let Joined {
         end,
         table,
         book,
         line_ends,
-        ranges,
-        length,
         rescans,
         rescanned,
     } = joined;

@@ -70,8 +70,8 @@ fn load_windows<R: Threads + Wait + Sync, S: Source + Send, G: Gate>(
         Ok(()) => {}
         Err(stop) => return Err(stop),
     }
-    let joined = join_windows(rt, alloc, &windows, scanner, feed, stages, reader.number)?;
-    Ok(data_read(joined))
+    let counted = join_windows(rt, alloc, &windows, scanner, feed, stages, reader.number)?;
+    Ok(data_read(counted))
 }
 
 /// Loads data of which the head was read. Where the input has ended nothing more is read.

@@ -7,7 +7,7 @@ ghost use Rattle.pipe_load.specs.Layout.{windows_of, stride};
 ghost use Rattle.pipe_load.specs.Scanning.{IsStage, HasScanned};
 
 use crate::feeding::Feed;
-use crate::joining::Joined;
+use crate::joining::Counted;
 use crate::scanner::Scanner;
 use crate::slots::Slots;
 use crate::stage::Stage;
@@ -26,7 +26,7 @@ pub fn join_windows<R: Wait, G: Gate>(
     feed: Feed,
     stages: Vec<Stage>,
     count: u64,
-) -> Result<Joined, NoMemory>
+) -> Result<Counted, NoMemory>
     requires feed { IsCallers windows.now feed.pass }
     requires made { length (made_of feed) ≡ count }
     requires numbered { AreNumbered (made_of feed) }
@@ -36,8 +36,8 @@ pub fn join_windows<R: Wait, G: Gate>(
     // Where the windows are those of some data, all of these are joined.
     ensures { (text : List ℕ) → made_of feed ≡ windows_of scanner.now.layout text count → length text ≤ count * stride scanner.now.layout
         → (0 < count → (count - 1) * stride scanner.now.layout < length text)
-        → IfOk result (λ joined. IsJoinedTo scanner.now.context.now text scanner.now.layout.data_start scanner.now.layout.range_size
-        (range_count (length text) scanner.now.layout.range_size) joined) }
+        → IfOk result (λ counted. IsJoinedTo scanner.now.context.now text scanner.now.layout.data_start scanner.now.layout.range_size
+        (range_count (length text) scanner.now.layout.range_size) counted) }
 {
     let Feed { mut pass, waiting } = feed;
     let mut slots = Slots::new(alloc, count)?;
@@ -46,10 +46,10 @@ pub fn join_windows<R: Wait, G: Gate>(
     }
     slots.place_stages(windows, &mut pass, stages);
     slots.place_waiting(alloc, waiting);
-    let mut joined = Joined::new(alloc, scanner.context)?;
+    let mut counted = Counted::new(alloc, scanner.context)?;
     for number in 0..count {
         let kept = slots.fetch(rt, alloc, windows, &mut pass, number);
-        joined.add_window(scanner, kept)?;
+        counted.add_window(scanner, kept)?;
     }
-    Ok(joined)
+    Ok(counted)
 }

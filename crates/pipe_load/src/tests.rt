@@ -163,7 +163,7 @@ fn stages_read_what_windows_read(rt: HostRuntime) -> Result<(), Fail> {
         threads: 64,
         fails: 0,
     };
-    // Windows of 64 bytes, three windows, a head that has all, and one that has a part.
+    // Windows of 68 bytes, windows of 800, a head that has all, and one that has a part.
     let mut ways = [whole, whole, whole, whole, whole, whole, whole];
     (ways[0].range_size, ways[0].threads) = (1, 2);
     ways[2].head = 1_000_000;

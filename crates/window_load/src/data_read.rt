@@ -2,10 +2,11 @@
 ghost use Rattle.std.specs.Prelude.{◌≡◌, ◌<◌};
 ghost use Rattle.window_load.specs.DataRead.{window_read};
 
-use crate::progress::{GroupsRead, Progress};
+use crate::groups_read::GroupsRead;
 use column_store::Table;
 use quote_automaton::State;
 use range_guess::cut;
+use range_scan::Joined;
 use reject_book::{Book, Reject};
 
 /// What the data of an input come to: the parts of all their ranges, each in its true state, as one.
@@ -38,11 +39,11 @@ pub fn window_read(read: GroupsRead, length: u64, range_size: u64) -> WindowRead
 {
     match read {
         GroupsRead::All(
-            Progress {
+            Joined {
                 end,
                 table,
                 book,
-                lines,
+                line_ends,
                 rescans,
                 rescanned,
             },
@@ -50,7 +51,7 @@ pub fn window_read(read: GroupsRead, length: u64, range_size: u64) -> WindowRead
             end,
             table,
             book,
-            line_ends: lines,
+            line_ends,
             length,
             ranges: cut(length, range_size).count(),
             rescans,

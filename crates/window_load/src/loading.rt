@@ -60,7 +60,6 @@ pub fn window_load<R: Threads + Sync, S: Source, G: Gate>(
     window.drop_front(data_start);
     let course = Course {
         start: data_start as u64,
-        lines: 0,
         range_size,
         stop,
     };

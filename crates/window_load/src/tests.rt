@@ -9,7 +9,7 @@ use column_store::Table;
 use csv_source::{Bytes, MemorySource, NoMemory, OpenGate, Source, read_more};
 use quote_automaton::State;
 use range_scan::Context;
-use reject_book::{Book, ErrorKind, Keep, Reject, Schema};
+use reject_book::{Book, Keep, Reject, Schema};
 use std::alloc::Global;
 use std::process::Abort;
 use std::test::Fail;
@@ -327,33 +327,5 @@ fn a_window_drops_and_reads_past(rt: HostRuntime) -> Result<(), Fail> {
     assert!(rt; window.read_past(&mut source).is_ok());
     assert!(rt; window.ended());
     assert_eq!(rt; window.reach(), 100_000);
-    Ok(())
-}
-
-fn reject(alloc: Global) -> Result<Reject, NoMemory> {
-    Ok(Reject {
-        scan_id: 0,
-        file_id: 0,
-        line: 2,
-        line_byte_position: 1,
-        byte_position: 1,
-        column_idx: 1,
-        column_name: Bytes::copy_of(alloc, b"first")?,
-        error_type: ErrorKind::Cast,
-        csv_line: Bytes::copy_of(alloc, b"xy,a")?,
-        error_message: Bytes::copy_of(alloc, b"no number")?,
-    })
-}
-
-#[test]
-fn a_book_is_appended_behind_some_lines(rt: HostRuntime) -> Result<(), Fail> {
-    let mut other = Book::new(rt.alloc(), Keep::All);
-    let mut book = Book::new(rt.alloc(), Keep::All);
-    other.add(reject(rt.alloc())?)?;
-    append_book(&mut book, other, 5)?;
-    assert!(rt; book.len() == 1);
-    assert_eq!(rt; book.get(0).line, 7);
-    assert_eq!(rt; sum_of(2, 3), Ok(5));
-    assert!(rt; sum_of(u64::MAX, 1).is_err());
     Ok(())
 }

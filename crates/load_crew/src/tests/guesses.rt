@@ -28,13 +28,13 @@ fn rows_over_lines(alloc: Global) -> Result<Vec<u8>, NoMemory> {
 /// One number of all cells and all rejects, in order.
 fn digest_of(read: &GroupRead) -> u64 {
     let mut digest = 0u64;
-    for row in 0..read.table.rows() {
-        for column in 0..read.table.columns() {
-            digest = with_cell(digest, read.table.cell_at(column, row));
+    for row in 0..read.joined.table.rows() {
+        for column in 0..read.joined.table.columns() {
+            digest = with_cell(digest, read.joined.table.cell_at(column, row));
         }
     }
-    for place in 0..read.book.len() {
-        let reject = read.book.get(place);
+    for place in 0..read.joined.book.len() {
+        let reject = read.joined.book.get(place);
         digest = with_number(with_number(digest, reject.line), reject.byte_position);
     }
     digest

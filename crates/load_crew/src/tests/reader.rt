@@ -141,14 +141,14 @@ fn last_line(book: &Book) -> u64 {
 /// What is read, in numbers.
 pub fn tally_of(read: &GroupRead) -> Tally {
     Tally {
-        end: read.end,
+        end: read.joined.end,
         stopped: read.stopped,
-        rows: read.table.rows(),
-        rejects: read.book.all(),
-        line: last_line(&read.book),
-        line_ends: read.line_ends,
-        rescans: read.rescans,
-        rescanned: read.rescanned,
+        rows: read.joined.table.rows(),
+        rejects: read.joined.book.all(),
+        line: last_line(&read.joined.book),
+        line_ends: read.joined.line_ends,
+        rescans: read.joined.rescans,
+        rescanned: read.joined.rescanned,
     }
 }
 

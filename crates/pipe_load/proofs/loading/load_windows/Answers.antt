@@ -31,8 +31,8 @@ returns-clause-ok g c =
     let windows : made_of c.read_beside.new.feed ≡ windows_of l text number = cut.windows ∙ ap (λ (x : Layout). windows_of x text number) plan in
     let covered : length text ≤ number * stride l = subst (λ (x : Layout). length text ≤ number * stride x) plan cut.covered in
     let begun : 0 < number → (number - 1) * stride l < length text = subst (λ (x : Layout). 0 < number → (number - 1) * stride x < length text) plan cut.begun in
-    let read : IsDataRead context text l.data_start l.range_size (data_read c.in_ok-joined.joined) =
-    all_read context l c.args.scanner.now.lies text c.in_ok-joined.joined (c.in_ok-joined.ensures text windows covered begun) in
+    let read : IsDataRead context text l.data_start l.range_size (data_read c.in_ok-counted.counted) =
+    all_read context l c.args.scanner.now.lies text c.in_ok-counted.counted (c.in_ok-counted.ensures text windows covered begun) in
     let text_is : text ≡ c.args.head.now ++ came = cut.text_is ∙ ap (λ (front : List ℕ). front ++ came) c.new-reader.ensures.rest in
     let few = cut.rest in let left = c.new-reader.ensures.left in (
       came,

@@ -40,14 +40,14 @@ loop-number-init g c =
     let long : All (λ (s : Stage). s.short ≡ false) c.args.stages.items = subst (All (λ (s : Stage). s.short ≡ false)) c.as_slice.ensures.value (c.any_short.ensures c.if-any_short.false) in
     let staged : AreSlots context l made c.place_stages.new.self =
     c.place_stages.ensures.slots context l made c.args.feed.waiting.items refl (λ k d lt. c.requires.all k d lt (long k d lt)) h in
-    let begun = c.in_ok-joined.ensures in
+    let begun = c.in_ok-counted.ensures in
     record {
       pass = c.place_stages.ensures.pass;
       many = omega (arith, many, count, a, b, c.in_ok-slots.slots.slots.ok.0);
       slots = c.place_waiting.ensures.slots context l made (waiting_is_made put c.args.feed.waiting.items c.requires.numbered) staged;
-      types = begun.types;
-      keep = ap (λ b. b.keep) begun.book;
-      joined = λ text is covered begins. first_window context l c.args.scanner.now.lies text c.in_ok-joined.joined begun;
+      types = begun.0.part.types;
+      keep = ap (λ b. b.keep) begun.0.part.book;
+      joined = λ text is covered begins. first_window context l c.args.scanner.now.lies text c.in_ok-counted.counted begun.0 begun.1 begun.2;
     }
 
 pub loop-number-preserved : goal.loop-number-preserved
@@ -58,7 +58,7 @@ loop-number-preserved g c =
     let inv = c.loop-number.invariant in
     let put_is = inv.pass.put_is in
     let got = c.fetch-kept.ensures.value context l made c.args.feed.waiting.items (ap (λ (ws : List Window). ws ++ c.args.feed.waiting.items) (sym put_is)) inv.slots in
-    let adds : AddsRanges context l c.fetch-kept.result.window (stretch_len l c.fetch-kept.result.window) c.loop-number.joined c.add_window.new.self = c.in_ok-add_window.ensures in
+    let adds : AddsRanges context l c.fetch-kept.result.window (stretch_len l c.fetch-kept.result.window) c.loop-number.counted c.add_window.new.self = c.in_ok-add_window.ensures in
     record {
       pass = subst (λ (ws : List Window). HasPut c.args.windows.now ws c.fetch-kept.new.pass) put_is c.fetch-kept.ensures.pass;
       many = c.fetch-kept.ensures.same ∙ inv.many;
@@ -66,7 +66,7 @@ loop-number-preserved g c =
       types = adds.types;
       keep = adds.keep;
       joined = λ text is covered begins.
-          next_window context l c.args.scanner.now.lies text c.loop-number.number c.fetch-kept.result.window c.loop-number.joined c.add_window.new.self
+          next_window context l c.args.scanner.now.lies text c.loop-number.number c.fetch-kept.result.window c.loop-number.counted c.add_window.new.self
           (one_is l text made c.args.count c.loop-number.number c.fetch-kept.result.window is got.1.one got.2)
           (begins_before (l.ranges * l.range_size) c.args.count c.loop-number.number (length text) c.loop-number-test.true begins) c.requires.reach adds (inv.joined text is covered begins);
     }
@@ -74,5 +74,5 @@ loop-number-preserved g c =
 pub returns : goal.returns
 returns g c = λ text is covered begins.
     let last : c.loop-number.number ≡ c.args.count = let t = c.loop-number-test.false in omega (arith, t) in
-    last_window c.args.scanner.now.context.now c.args.scanner.now.layout c.args.scanner.now.lies text c.args.count c.loop-number.joined covered
-    (subst (λ n. IsJoinedTo c.args.scanner.now.context.now text c.args.scanner.now.layout.data_start c.args.scanner.now.layout.range_size (min (n * c.args.scanner.now.layout.ranges) (range_count (length text) c.args.scanner.now.layout.range_size)) c.loop-number.joined) last (c.loop-number.invariant.joined text is covered begins))
+    last_window c.args.scanner.now.context.now c.args.scanner.now.layout c.args.scanner.now.lies text c.args.count c.loop-number.counted covered
+    (subst (λ n. IsJoinedTo c.args.scanner.now.context.now text c.args.scanner.now.layout.data_start c.args.scanner.now.layout.range_size (min (n * c.args.scanner.now.layout.ranges) (range_count (length text) c.args.scanner.now.layout.range_size)) c.loop-number.counted) last (c.loop-number.invariant.joined text is covered begins))

@@ -1,6 +1,6 @@
 use Rattle.pipe_load.specs.Joining.{AddsRanges}
 use Rattle.pipe_load.specs.Joining.{GuessedFrom}
-use Rattle.pipe_load.proofs.joining.Joined.add_window.Given as goal
+use Rattle.pipe_load.proofs.joining.Counted.add_window.Given as goal
 
 abbrev pub invariant-loop-range : goal.invariant-loop-range
 invariant-loop-range g l = record {

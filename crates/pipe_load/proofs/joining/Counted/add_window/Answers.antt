@@ -6,7 +6,7 @@ use Rattle.pipe_load.specs.Layout.{stretch_of, stretch_count, span_of}
 use Rattle.pipe_load.specs.Scanning.{guessed_part}
 use Rattle.pipe_load.specs.Joining.{AddsRange, AddsRanges, GuessedFrom, stretch_len}
 use Rattle.pipe_load.proofs.WindowRanges.{adds_more, adds_none, parts_next}
-use Rattle.pipe_load.proofs.joining.Joined.add_window.Goals as goal
+use Rattle.pipe_load.proofs.joining.Counted.add_window.Goals as goal
 
 pub loop-range-init : goal.loop-range-init
 loop-range-init g c = record {
