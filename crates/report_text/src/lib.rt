@@ -20,8 +20,6 @@ mod table;
 #[cfg(test)]
 mod tests;
 mod text;
-#[cfg(test)]
-mod worker_tests;
 mod workers;
 
 pub use made::make_text;

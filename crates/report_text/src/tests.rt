@@ -14,14 +14,13 @@ use csv_source::{Bytes, NoMemory};
 use load_options::{WordFault, WordRule};
 use reject_book::{Book, ErrorKind, Keep, Reject};
 use std::alloc::Global;
+use std::thread::Threads;
 use value_types::{Cell, Cells, ColumnType, Names, Types, Value};
 
-pub(crate) const FOUND: &[u8] =
+const FOUND: &[u8] =
     b"options|delim=\\||quote=\"|escape=|newline=\\r\\n|skip=2|header=true\ncolumn|0|BIGINT|id\ncolumn|1|VARCHAR|a\\tb\n";
 
-pub(crate) const TEXT: &[u8] = b"34 ordinary bytes stand before \\|\n\r\t\x01\x1f\x7f\xc3";
-
-pub(crate) const ROWS: &[u8] =
+const ROWS: &[u8] =
     b"row|-7|34 ordinary bytes stand before \\\\\\|\\n\\r\\t\\x01\\x1f\\x7f\xc3\nrow|\\N|\n";
 
 const SCAN: &[u8] = b"scan|0|0|a\\|b.csv|\\||\"||\\r\\n|2|true|2\n";
@@ -31,7 +30,7 @@ const REJECT: &[u8] =
 
 const STATS: &[u8] = b"stats|ranges=4|rescans=1|scanned=4194304\n";
 
-pub(crate) fn sniffed(alloc: Global) -> Result<Sniffed, NoMemory>
+fn sniffed(alloc: Global) -> Result<Sniffed, NoMemory>
     ensures types { IfOk result (λ sniffed. sniffed.types ≡ column.Bigint ∷ column.Varchar ∷ []) }
     ensures names { IfOk result (λ sniffed. length sniffed.names ≡ 2) }
 {
@@ -56,12 +55,7 @@ pub(crate) fn sniffed(alloc: Global) -> Result<Sniffed, NoMemory>
 }
 
 /// Appends a row of a number and a text.
-pub(crate) fn push(
-    table: &mut Table,
-    number: Cell<'_>,
-    text: &[u8],
-    row: &mut Cells,
-) -> Result<(), NoMemory>
+fn push(table: &mut Table, number: Cell<'_>, text: &[u8], row: &mut Cells) -> Result<(), NoMemory>
     requires types { table.old.types ≡ column.Bigint ∷ column.Varchar ∷ [] }
     requires number { fits column.Bigint (datum_of number) ≡ true }
     requires spelled { IsSpelledCell (datum_of number) }
@@ -85,7 +79,8 @@ fn table(alloc: Global, types: &Types) -> Result<Table, NoMemory>
 {
     let mut table = Table::new(alloc, types)?;
     let mut row = Cells::new(alloc);
-    push(&mut table, Cell::Value(Value::Int(-7)), TEXT, &mut row)?;
+    let text = b"34 ordinary bytes stand before \\|\n\r\t\x01\x1f\x7f\xc3";
+    push(&mut table, Cell::Value(Value::Int(-7)), text, &mut row)?;
     push(&mut table, Cell::Null, b"", &mut row)?;
     Ok(table)
 }
@@ -109,7 +104,7 @@ fn reject(alloc: Global) -> Result<Reject, NoMemory> {
 }
 
 /// Two rejects came, and the first is stored.
-pub(crate) fn book(alloc: Global) -> Result<Book, NoMemory> {
+fn book(alloc: Global) -> Result<Book, NoMemory> {
     let mut book = Book::new(alloc, Keep::First(1));
     book.add(reject(alloc)?)?;
     book.add(reject(alloc)?)?;
@@ -172,6 +167,10 @@ fn outcome(alloc: Global, kind: Kind) -> Result<Outcome, NoMemory>
     })
 }
 
+fn text_of<R: Threads + Sync>(rt: &R, alloc: Global, kind: Kind) -> Result<Vec<u8>, NoMemory> {
+    render(rt, alloc, &outcome(alloc, kind)?, 4)
+}
+
 /// The lines that the loader's manual gives for each kind of report.
 #[test]
 fn a_report_has_these_lines(rt: HostRuntime) -> Result<(), NoMemory> {
@@ -205,10 +204,7 @@ fn a_report_has_these_lines(rt: HostRuntime) -> Result<(), NoMemory> {
         for line in lines {
             expected.extend_from_slice(line)?;
         }
-        assert_eq!(rt;
-            render(&rt, alloc, &outcome(alloc, kind)?, 4)?.as_slice(),
-            expected.as_slice()
-        );
+        assert_eq!(rt; text_of(&rt, alloc, kind)?.as_slice(), expected.as_slice());
     }
     Ok(())
 }

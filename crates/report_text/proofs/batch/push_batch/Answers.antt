@@ -12,11 +12,10 @@ use Rattle.report_text.proofs.batch.push_batch.Goals as goal
 
 pub push_table-requires : goal.push_table-requires
 push_table-requires g c =
-    let batch = c.args.batch.now in
-    (
+    let batch = c.args.batch.now in (
       search rules,
       subst (λ tys. All (IsPrintableRow tys) c.table.result.now.rows) (sym (c.table.ensures.types ∙ c.requires.types))
-      (subst (All (IsPrintableRow c.args.sniffed.now.types)) (sym c.table.ensures.rows) (printable_rows c.args.sniffed.now.types batch.rows c.requires.rows c.requires.values)),
+          (subst (All (IsPrintableRow c.args.sniffed.now.types)) (sym c.table.ensures.rows) (printable_rows c.args.sniffed.now.types batch.rows c.requires.rows c.requires.values)),
     )
 
 pub returns : goal.returns
