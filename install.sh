@@ -4,7 +4,7 @@
 #     install.sh               into ~/.local
 #     PREFIX=DIR install.sh    into DIR
 #
-# The proofs are made first, which takes a quarter of an hour on four processors where nothing is kept.
+# The proofs are made first, which takes long where nothing is kept.
 set -eu
 cd "$(dirname "$0")"
 case ${1-} in
