@@ -1,5 +1,5 @@
 -- Several files with one more.
-use Rattle.std.proofs.Common.{◌≡◌, ℕ, zero, suc, ◌+◌, ◌||◌, Bool, true, false, cond, List, [], ◌∷◌, ◌++◌, map, length, drop, Option, None, Some, refl, sym, ap, ◌∙◌, subst, arith, append_assoc, append-nil}
+use Rattle.std.proofs.Common.{◌≡◌, ℕ, suc, ◌+◌, ◌||◌, Bool, true, false, cond, List, [], ◌∷◌, ◌++◌, map, length, None, Some, refl, sym, ap, ◌∙◌, arith, append-nil}
 use Rattle.std.specs.Prelude.{flat_map, slice_get, sum, All}
 use Rattle.std.proofs.lemmas.List.{map-append}
 use Rattle.std.proofs.lemmas.List.Concat.{flat_map-append}
@@ -12,14 +12,12 @@ use Rattle.reject_book.specs.declared.reject.Reject.{Reject}
 use Rattle.reject_book.specs.Kept.{book_of}
 use Rattle.reject_book.specs.Verdict.{Verdict}
 use Rattle.file_list.specs.BatchView.{BatchView, with_file}
-use Rattle.file_list.specs.declared.batch.FileBook.{FileBook}
 use Rattle.report_text.specs.declared.outcome.Stats.{Stats}
 use Rattle.csv_loader.specs.declared.batch.BatchLoad.{BatchLoad}
 use Rattle.csv_loader.specs.declared.batch.BatchLoad.TheVariants as batches
 use Rattle.csv_loader.specs.declared.loading.Load.{Load}
 use Rattle.csv_loader.specs.declared.loading.Load.TheVariants as loads
-use Rattle.csv_loader.specs.Batch.{readings_from, books_of, batch_of, batch_error, both_stats, file_stats, batch_stats}
-use Rattle.csv_loader.specs.BatchLoad.{IsBatchLoad, CanJoin, no_files, with_load}
+use Rattle.csv_loader.specs.Batch.{readings_from, books_of, batch_of, batch_error, both_stats, file_stats, batch_stats, IsBatchLoad, CanJoin, no_files, with_load}
 use Rattle.csv_loader.specs.Loading.{IsLoad}
 use Rattle.csv_loader.specs.Reading.{file_reading, table_rows, faults, keep_of, ending_error}
 use Rattle.csv_loader.proofs.Printing.{IsRowOf, file_prints}

@@ -1,13 +1,12 @@
 -- The files of a word, as they are read one after another.
-use Rattle.std.proofs.Common.{◌≡◌, ◌⊎◌, inl, inr, ℕ, zero, suc, ◌+◌, ◌<◌, ◌≤◌, Bool, true, false, cond, List, [], ◌∷◌, ◌++◌, map, length, take, drop, Option, None, Some, IfSome, refl, sym, ap, ◌∙◌, subst, arith, append_assoc, append-nil, length-append, length-take}
-use Rattle.std.specs.Prelude.{All, ⊤, nat_lt, unwrap_or, option_map}
+use Rattle.std.proofs.Common.{◌≡◌, ℕ, ◌+◌, ◌<◌, ◌≤◌, true, cond, List, [], ◌∷◌, ◌++◌, map, length, take, drop, Option, None, Some, IfSome, refl, sym, ap, ◌∙◌, subst, arith, append_assoc, append-nil, length-append, length-take}
+use Rattle.std.specs.Prelude.{All, ⊤, unwrap_or}
 use Rattle.std.specs.Bool.{then_some}
 use Rattle.std.specs.List.{filter_map}
 use Rattle.std.proofs.lemmas.Bool.{le-ltb, lt-ltb}
 use Rattle.std.proofs.lemmas.List.{length-map, map-append, take_all, drop_all}
 use Rattle.std.proofs.lemmas.List.Elements.{All-weaker}
-use Rattle.csv_source.specs.Causes.{Rose}
-use Rattle.csv_source.specs.Files.{file_of, Lacks, Opens}
+use Rattle.csv_source.specs.Files.{file_of, Lacks}
 use Rattle.value_types.specs.OfType.{fit_all}
 use Rattle.load_options.specs.declared.options.Options.{Options}
 use Rattle.load_options.specs.FileNames.{file_names}
@@ -22,10 +21,8 @@ use Rattle.report_text.specs.declared.outcome.Outcome.TheVariants as outcomes
 use Rattle.csv_loader.specs.declared.batch.BatchLoad.{BatchLoad}
 use Rattle.csv_loader.specs.declared.batch.BatchLoad.TheVariants as batches
 use Rattle.csv_loader.specs.declared.loading.Load.{Load}
-use Rattle.csv_loader.specs.Batch.{found_in_first, batch_of, batch_error, batch_stats, unless_batch_error, inputs_outcome, refused_or, batch_refusal, batch_outcome, last_read}
-use Rattle.csv_loader.specs.BatchLoad.{IsReadWhole, IsReadOver, IsBatchLoad, CanJoin, no_files, with_load, load_outcome, AreOpened, IsOutcomeOfFiles, LacksOne}
-use Rattle.csv_loader.specs.Input.{IsInput}
-use Rattle.csv_loader.specs.Loading.{IsLoad}
+use Rattle.csv_loader.specs.Batch.{found_in_first, batch_of, batch_error, unless_batch_error, inputs_outcome, batch_refusal, batch_outcome, last_read, IsReadWhole, IsReadOver, IsBatchLoad, CanJoin, no_files, with_load, load_outcome, AreOpened, IsOutcomeOfFiles, LacksOne}
+use Rattle.csv_loader.specs.Loading.{IsInput, IsLoad}
 use Rattle.csv_loader.specs.Reading.{schema_of}
 use Rattle.csv_loader.proofs.Batches.{none_loaded, one_more, can_join, readings_print}
 use Rattle.csv_loader.proofs.Printing.{IsRowOf}

@@ -1,10 +1,9 @@
 -- A file that is read by its head and what comes behind it.
-use Rattle.std.proofs.Common.{◌≡◌, ℕ, ◌+◌, List, ◌++◌, length, Option, true, [], sym, ◌∙◌, arith}
+use Rattle.std.proofs.Common.{◌≡◌, ℕ, ◌+◌, List, ◌++◌, Option, true, []}
 use Rattle.std.specs.Io.KnownBytes.{Consumes}
-use Rattle.csv_source.specs.Files.{Opens}
 use Rattle.window_load.specs.DataRead.{ComesWhole, ComesOver}
-use Rattle.window_load.specs.Window.{WindowView, no_bytes}
-use Rattle.csv_loader.specs.BatchLoad.{IsOpened, IsReadWhole, IsReadOver}
+use Rattle.window_load.specs.Window.{WindowView}
+use Rattle.csv_loader.specs.Batch.{IsOpened, IsReadWhole, IsReadOver}
 use Rattle.csv_loader.proofs.HeadSteps.{comes_weaker, comes_from, over_from}
 use Rattle.csv_loader.proofs.InputLemmas.{input_whole, input_over}
 
@@ -16,6 +15,3 @@ module _ (limit : ℕ) (held : Option (List (List ℕ × List ℕ))) (name : Lis
 
   pub over_file : ComesOver before after head → IsReadOver limit held name after
   over_file comes = input_over limit held name opened.0 after opened.1 (over_from before after head opened.0 limit opened.2 fits comes)
-
-pub over_opened : (limit : ℕ) (held : Option (List (List ℕ × List ℕ))) (name : List ℕ) (after : Option (List ℕ)) → IsOpened held name (λ first. ComesOver first after (no_bytes limit)) → IsReadOver limit held name after
-over_opened limit held name after opened = input_over limit held name opened.0 after opened.1 opened.2

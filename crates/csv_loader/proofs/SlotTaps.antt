@@ -1,5 +1,5 @@
 -- What the taps have seen that were put into slots.
-use Rattle.std.proofs.Common.{◌≡◌, ℕ, List, [], ◌∷◌, map, refl, sym, ap, ◌∙◌, subst, drop}
+use Rattle.std.proofs.Common.{◌≡◌, List, [], ◌∷◌, map, refl, sym, ap, ◌∙◌, subst}
 use Rattle.std.specs.Prelude.{All}
 use Rattle.std.proofs.lemmas.List.Elements.{All-map}
 use Rattle.std.proofs.lemmas.Simd.{map-map}
@@ -8,7 +8,7 @@ use Rattle.column_taps.specs.declared.slot.Slot.TheVariants.{Live, Over}
 use Rattle.column_taps.specs.Seen.{Seen, counted, IsFresh}
 use Rattle.column_taps.specs.Course.{Course, going, over_at}
 use Rattle.column_taps.specs.Slots.{course_in}
-use Rattle.csv_loader.specs.Showing.{seen_in, AreNew}
+use Rattle.csv_loader.specs.Reply.{seen_in, AreNew}
 
 abbrev seen_of : Course → Seen
 seen_of (going seen) = seen

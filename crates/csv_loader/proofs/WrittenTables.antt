@@ -6,7 +6,7 @@ use Rattle.std.proofs.lemmas.Bool.{eqb-true, eq-eqb, and_parts}
 use Rattle.std.proofs.lemmas.List.Elements.{All-head, All-tail}
 use Rattle.std.proofs.Math.Bool.{and-false}
 use Rattle.row_fields.specs.Written as grammar
-use Rattle.row_fields.specs.Written.{WrittenField, field_text, quoted_text, row_text, ended_row_text, text_of, lf, IsBareByte, IsWritable, begins_with_comment, IsWrittenRow, IsWritten}
+use Rattle.row_fields.specs.Written.{WrittenField, field_text, row_text, ended_row_text, text_of, lf, IsBareByte, IsWritable, begins_with_comment, IsWrittenRow, IsWritten}
 use Rattle.value_types.specs.declared.types.ColumnType.{ColumnType}
 use Rattle.value_types.specs.Datum.{Datum, null, typed, text}
 use Rattle.value_types.specs.OfType.{fit_all}
@@ -14,7 +14,7 @@ use Rattle.value_types.specs.ValueText.{value_text}
 use Rattle.csv_writer.specs.Quoting.{wants_quotes, needs_quotes, doubled}
 use Rattle.csv_writer.specs.WrittenTable.{text_field, cell_field, row_lines, written_table}
 use Rattle.csv_writer.proofs.PlainValues.{IsPlain, value_plain}
-use Rattle.csv_loader.specs.WrittenBack.{csv_marks, text_to_write, cell_to_write, table_to_write, HasColumns}
+use Rattle.csv_loader.specs.Laws.{csv_marks, text_to_write, cell_to_write, table_to_write, HasColumns}
 use Rattle.csv_loader.proofs.KnownTests.{neither}
 
 -- ---- the texts

@@ -1,5 +1,5 @@
-// The load of one of several files.
-ghost use Rattle.std.specs.Prelude.{◌≡◌, ◌⊎◌, ◌≤◌, ◌^◌, true, length, IfOk, Err};
+// The load of an input: its head, which is read before the sample is looked at, and its data.
+ghost use Rattle.std.specs.Prelude.{◌≡◌, ◌⊎◌, ◌≤◌, ◌^◌, true, false, IfOk, IsTrue, IsFalse, Err};
 ghost use Rattle.std.specs.Io.KnownBytes.{Consumes, IsAtEnd};
 ghost use Rattle.csv_source.specs.Causes.{Rose};
 ghost use Rattle.csv_source.specs.Files.{Lacks, Opens};
@@ -9,14 +9,12 @@ ghost use Rattle.window_load.specs.DataRead.{ComesOver};
 ghost use Rattle.window_load.specs.Window.{no_bytes};
 ghost use Rattle.window_load.specs.declared.stop.LoadStop.TheVariants as stops;
 ghost use Rattle.csv_sniffer.specs.Input.{found};
-ghost use Rattle.csv_loader.specs.BatchLoad.{IsOpened, IsReadWhole, IsReadOver};
-ghost use Rattle.csv_loader.specs.Head.{IsHead};
-ghost use Rattle.csv_loader.specs.Loading.{IsLoad};
+ghost use Rattle.csv_loader.specs.Batch.{IsOpened, IsReadWhole, IsReadOver};
+ghost use Rattle.csv_loader.specs.Loading.{IsHead, GoesBehindSample, IsLoad, IsInputLoad};
 ghost use Rattle.csv_loader.specs.Reading.{schema_of};
 
-use crate::head::read_head;
 use crate::loading::{Load, load_data};
-use csv_sniffer::{Finding, Sniffed, place_under, sniff_input};
+use csv_sniffer::{Finding, SAMPLE_LIMIT, Sniffed, place_under, sample_start, sniff_input};
 use csv_source::{Gate, Source};
 use load_options::Options;
 use std::alloc::Global;
@@ -24,15 +22,50 @@ use std::sync::Wait;
 use std::thread::Threads;
 use window_load::{InputWindow, LoadStop};
 
-/// What is found in the first file, and what its data come to.
+/// What is found in an input, and what its data come to under it.
 #[derive(Drop)]
-pub struct FirstFile {
+pub struct InputLoad {
     pub sniffed: Sniffed,
     pub load: Load,
 }
 
+/// The first reading: a sample, a byte order mark, and some skipped lines.
+const FIRST: usize = SAMPLE_LIMIT + 65_536;
+
+/// Whether a head holds the sample, and tells whether the input ends with it.
+fn holds_sample(head: &InputWindow, skip: u64) -> bool
+    ensures ok { IsTrue result → (head.now.ended ≡ true) ⊎ GoesBehindSample skip head.now.kept }
+    ensures none { IsFalse result → head.now.ended ≡ false }
+{
+    head.ended() || head.len() - sample_start(head.bytes(), skip) > SAMPLE_LIMIT
+}
+
+/// Reads the head of an input. It is doubled until it holds the sample, which skipped lines may put far behind: these
+/// are walked once for each doubling.
+fn read_head<S: Source>(
+    alloc: Global,
+    source: &mut S,
+    skip: u64,
+    most: u64,
+) -> Result<InputWindow, LoadStop>
+    requires { most ≤ 2 ^ 32 }
+    ensures ok { IfOk result (λ head. IsHead skip most head × Consumes (S.left source.old) (S.left source.new) head.kept) }
+    ensures at_end { IfOk result (λ head. head.ended ≡ true → IsAtEnd (S.left source.new)) }
+    ensures too_large { result ≡ Err stops.TooLarge → ComesOver (S.left source.old) (S.left source.new) (no_bytes most) }
+    ensures failed { result ≡ Err stops.Failed → Rose (S.faults source.old) (S.faults source.new) }
+    ensures held { S.held source.new ≡ S.held source.old }
+    ensures count { S.faults source.old ≤ S.faults source.new }
+{
+    let mut head = InputWindow::new(alloc, most);
+    while !holds_sample(&head, skip) {
+        let len = head.len();
+        head.fill_to(source, len + len.max(FIRST))?;
+    }
+    Ok(head)
+}
+
 /// Opens a file and reads its head.
-fn open_head<S: Source>(
+pub fn open_head<S: Source>(
     alloc: Global,
     options: &Options,
     name: &str,
@@ -42,8 +75,7 @@ fn open_head<S: Source>(
     ensures ok { IfOk result (λ head. IsHead options.now.skip options.now.max_input head
         × IsOpened (S.held source.old) name.now (λ opened. Consumes opened (S.left source.new) head.kept)) }
     ensures at_end { IfOk result (λ head. head.ended ≡ true → IsAtEnd (S.left source.new)) }
-    ensures too_large { result ≡ Err stops.TooLarge → IsOpened (S.held source.old) name.now
-        (λ opened. ComesOver opened (S.left source.new) (no_bytes options.now.max_input)) }
+    ensures too_large { result ≡ Err stops.TooLarge → IsReadOver options.now.max_input (S.held source.old) name.now (S.left source.new) }
     ensures failed { result ≡ Err stops.Failed → Rose (S.faults source.old) (S.faults source.new) ⊎ Lacks (S.held source.old) name.now }
     ensures held { S.held source.new ≡ S.held source.old }
     ensures count { S.faults source.old ≤ S.faults source.new }
@@ -54,19 +86,19 @@ fn open_head<S: Source>(
     read_head(alloc, source, options.skip, options.max_input)
 }
 
-/// Loads the first file: its data under what is found in it.
-pub fn load_first<R: Threads + Wait + Sync, S: Source + Send, G: Gate>(
+/// Loads the input of a file: its data under what is found in it.
+pub fn load_input<R: Threads + Wait + Sync, S: Source + Send, G: Gate>(
     rt: &R,
     alloc: Global,
     options: &Options,
     name: &str,
     source: &mut S,
     gate: &G,
-) -> Result<FirstFile, LoadStop>
+) -> Result<InputLoad, LoadStop>
     requires within { IsAccepted options.now }
-    ensures ok { IfOk result (λ first. IsReadWhole options.now.max_input (S.held source.old) name.now (S.left source.new)
-        (λ input. (first.sniffed ≡ found options.now input) × IsLoad options.now first.sniffed 0 input first.load)) }
-    ensures columns { IfOk result (λ first. HasColumns (schema_of options.now first.sniffed)) }
+    ensures ok { IfOk result (λ read. IsReadWhole options.now.max_input (S.held source.old) name.now (S.left source.new)
+        (λ input. IsInputLoad options.now input read)) }
+    ensures columns { IfOk result (λ read. HasColumns (schema_of options.now read.sniffed)) }
     ensures too_large { result ≡ Err stops.TooLarge → IsReadOver options.now.max_input (S.held source.old) name.now (S.left source.new) }
     ensures failed { result ≡ Err stops.Failed → Rose (S.faults source.old) (S.faults source.new) ⊎ Lacks (S.held source.old) name.now }
     ensures held { S.held source.new ≡ S.held source.old }
@@ -80,7 +112,7 @@ pub fn load_first<R: Threads + Wait + Sync, S: Source + Send, G: Gate>(
     let load = load_data(
         rt, alloc, options, &sniffed, 0, head, data_start, source, gate,
     )?;
-    Ok(FirstFile { sniffed, load })
+    Ok(InputLoad { sniffed, load })
 }
 
 /// Loads a later file of a number: its data under what was found in the first one.

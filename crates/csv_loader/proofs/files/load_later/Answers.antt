@@ -1,11 +1,8 @@
-use Rattle.std.proofs.Common.{◌∙◌, ap, rules}
-use Rattle.window_load.specs.DataRead.{ComesOver}
-use Rattle.window_load.specs.Window.{no_bytes}
+use Rattle.std.proofs.Common.{◌∙◌, ap}
 use Rattle.csv_sniffer.specs.Input.{place_under}
-use Rattle.csv_loader.specs.BatchLoad.{IsOpened}
 use Rattle.csv_loader.specs.Loading.{IsLoad}
 use Rattle.csv_loader.proofs.Endings.{ok_weaker}
-use Rattle.csv_loader.proofs.HeadFiles.{whole_file, over_file, over_opened}
+use Rattle.csv_loader.proofs.HeadFiles.{whole_file, over_file}
 use Rattle.csv_loader.proofs.files.load_later.Goals as goal
 
 pub load_data-requires-clause-place : goal.load_data-requires-clause-place
@@ -23,8 +20,3 @@ pub returns-clause-too_large : goal.returns-clause-too_large
 returns-clause-too_large g c = λ e.
     over_file c.args.options.now.max_input (g.S.Source.held c.args.source.now) c.args.name.now (g.S.Source.left c.open_head.new.source) (g.S.Source.left c.load_data.new.source) c.in_ok-head.head c.in_ok-head.ensures.ok.0.limit c.in_ok-head.ensures.ok.1
     (c.load_data.ensures.too_large e)
-
-pub returns-in_err-head-clause-too_large : goal.returns-in_err-head-clause-too_large
-returns-in_err-head-clause-too_large g c = λ e.
-    let over : IsOpened (g.S.Source.held c.args.source.now) c.args.name.now (λ opened. ComesOver opened (g.S.Source.left c.open_head.new.source) (no_bytes c.args.options.now.max_input)) = search rules in
-    over_opened c.args.options.now.max_input (g.S.Source.held c.args.source.now) c.args.name.now (g.S.Source.left c.open_head.new.source) over

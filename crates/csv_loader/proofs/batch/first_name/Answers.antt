@@ -2,7 +2,7 @@ use Rattle.std.proofs.Common.{Some, None, ◌∙◌, ap, arith}
 use Rattle.std.proofs.lemmas.Str.Pattern.{split_parts}
 use Rattle.load_options.specs.FileNames.{file_names}
 use Rattle.csv_loader.proofs.NameSteps.{one_piece, first_piece}
-use Rattle.csv_loader.proofs.batching.first_name.Goals as goal
+use Rattle.csv_loader.proofs.batch.first_name.Goals as goal
 
 pub returns-in-Some : goal.returns-in-Some
 returns-in-Some c =

@@ -1,13 +1,13 @@
-use Rattle.std.proofs.Common.{◌≡◌, ◌⊎◌, inl, inr, ℕ, ◌+◌, ◌<◌, ◌≤◌, List, [], ◌∷◌, None, Some, refl, sym, ◌∙◌, ap, subst, arith, rules}
-use Rattle.std.specs.Prelude.{option_map, Option}
+use Rattle.std.proofs.Common.{◌≡◌, ◌⊎◌, inl, inr, ◌+◌, [], ◌∷◌, sym, ◌∙◌, ap, subst, arith, rules}
+use Rattle.std.specs.Prelude.{option_map}
 use Rattle.csv_source.specs.Causes.{Rose}
 use Rattle.csv_source.specs.Files.{Lacks}
 use Rattle.report_text.specs.Printable.{IsPrintable}
 use Rattle.csv_sniffer.specs.Input.{found}
-use Rattle.csv_loader.specs.BatchLoad.{IsReadWhole, IsReadOver, IsOutcomeOfFiles, names_behind, no_files, with_load}
+use Rattle.csv_loader.specs.Batch.{IsReadWhole, IsReadOver, IsOutcomeOfFiles, names_behind, no_files, with_load}
 use Rattle.csv_loader.specs.Loading.{IsLoad}
 use Rattle.csv_loader.proofs.FileSteps.{IsSoFar, none_so_far, next_file, none_left, over_told, lacks_one, all_told, all_printable}
-use Rattle.csv_loader.proofs.batching.load_files.Goals as goal
+use Rattle.csv_loader.proofs.batch.load_files.Goals as goal
 
 pub returns-in_err-sniffed-clause-too_large : goal.returns-in_err-sniffed-clause-too_large
 returns-in_err-sniffed-clause-too_large g c = λ e.
@@ -15,8 +15,8 @@ returns-in_err-sniffed-clause-too_large g c = λ e.
     let held = g.S.Source.held c.args.source.now in
     let name = c.first_name.result.0.now in
     let later = names_behind (option_map (λ text. text.now) c.first_name.result.1) in
-    let over : IsReadOver o.max_input held name (g.S.Source.left c.load_first.new.source) = search rules in
-    over_told o (found o []) held c.args.word.now name later 0 (no_files ((found o []).types)) (none_so_far o (found o []) held c.args.word.now (name ∷ later) c.first_name.ensures) (g.S.Source.left c.load_first.new.source) over
+    let over : IsReadOver o.max_input held name (g.S.Source.left c.load_input.new.source) = search rules in
+    over_told o (found o []) held c.args.word.now name later 0 (no_files ((found o []).types)) (none_so_far o (found o []) held c.args.word.now (name ∷ later) c.first_name.ensures) (g.S.Source.left c.load_input.new.source) over
 
 pub loop-behind-init : goal.loop-behind-init
 loop-behind-init g c =
@@ -24,7 +24,7 @@ loop-behind-init g c =
     let s = c.in_ok-sniffed.field-0.sniffed in
     let load = c.in_ok-sniffed.field-0.load in
     let held = g.S.Source.held c.args.source.now in
-    let left = g.S.Source.left c.load_first.new.source in
+    let left = g.S.Source.left c.load_input.new.source in
     let name = c.first_name.result.0.now in
     let later = names_behind (option_map (λ text. text.now) c.first_name.result.1) in
     let first = c.in_ok-sniffed.ensures.ok in
@@ -34,8 +34,8 @@ loop-behind-init g c =
       subst (IsSoFar o s held c.args.word.now later 1) (sym (c.in_ok-so_far.ensures.ok ∙ ap (λ l. with_load l name load) c.in_ok-no_files.ensures.ok)) next,
       omega arith,
       none_left o s held c.args.word.now name later 0 (no_files s.types) begun left (λ input. IsLoad o s 0 input load) read,
-      c.load_first.ensures.held,
-      c.load_first.ensures.count,
+      c.load_input.ensures.held,
+      c.load_input.ensures.count,
     )
 
 pub returns-in_err-load-clause-too_large : goal.returns-in_err-load-clause-too_large

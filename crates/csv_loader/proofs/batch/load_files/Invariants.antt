@@ -1,8 +1,8 @@
 use Rattle.std.proofs.Common.{◌≡◌, ◌≤◌, ◌<◌, length}
 use Rattle.std.specs.Prelude.{option_map}
-use Rattle.csv_loader.specs.BatchLoad.{names_behind}
+use Rattle.csv_loader.specs.Batch.{names_behind}
 use Rattle.csv_loader.proofs.FileSteps.{IsSoFar, LeavesNone}
-use Rattle.csv_loader.proofs.batching.load_files.Given as goal
+use Rattle.csv_loader.proofs.batch.load_files.Given as goal
 
 abbrev pub invariant-loop-behind : goal.invariant-loop-behind
 invariant-loop-behind g l =
