@@ -7,6 +7,7 @@ use mathlib.Core.Option.{some, some-injective, some-ne-none}
 use lib.ListN.{get_elem?}
 use Rattle.crossbeam_queue.proofs.Lists.{at_index}
 use Rattle.pipe_load.specs.Feeding.{AreNumbered}
+use Rattle.load_options.specs.declared.limits.TheConstants.{MAX_LINE_SIZE, RANGE_SIZE}
 use Rattle.quote_automaton.specs.declared.state.State.TheVariants.{RowStart}
 use Rattle.range_guess.specs.Cut.{range_count}
 use Rattle.range_scan.specs.declared.context.Context.{Context}
@@ -156,7 +157,7 @@ waiting_is_made put waiting h k d lt =
     same_default (x ∷ xs) (suc k) d lt = same_default xs k d (let under : k < length xs = omega (arith, lt) in under)
 
 -- the layout of a load within its limits
-pub layout_lies : (data_start size line : ℕ) → 0 < size → size ≤ 67_108_864 → line ≤ 4_194_304 → data_start ≤ 2 ^ 32 → IsLayout (layout_of data_start size line)
+pub layout_lies : (data_start size line : ℕ) → 0 < size → size ≤ RANGE_SIZE.most → line ≤ MAX_LINE_SIZE.most → data_start ≤ 2 ^ 32 → IsLayout (layout_of data_start size line)
 layout_lies data_start size line positive small rows start =
     let q : ℕ = 2 * line / size in
     let divides : size * q ≤ 2 * line = omega (arith, positive) in

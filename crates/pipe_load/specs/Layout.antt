@@ -1,6 +1,7 @@
 -- How windows lie in the data, and ranges in a window.
 use Rattle.std.specs.Prelude.{ℕ, ◌+◌, ◌-◌, ◌*◌, ◌/◌, ◌<◌, ◌≤◌, ◌^◌, min, List, length, map, slice_range}
 use Rattle.std.specs.List.{range_with_len}
+use Rattle.load_options.specs.declared.limits.TheConstants.{RANGE_SIZE}
 use Rattle.range_guess.specs.Cut.{range_count, range_bounds}
 use Rattle.range_scan.specs.declared.span.Span.{Span}
 use Rattle.pipe_load.specs.declared.layout.Layout.{Layout}
@@ -22,7 +23,7 @@ pub record IsLayout (l : Layout) : Type 0 where
   pub some : 0 < l.range_size
   pub ranges : 0 < l.ranges
   pub start : l.data_start ≤ 2 ^ 32
-  pub size : l.range_size ≤ 67_108_864
+  pub size : l.range_size ≤ RANGE_SIZE.most
   pub few : l.ranges ≤ 2 ^ 24
   pub short : l.ranges * l.range_size ≤ 2 ^ 33
   pub far : l.reach ≤ 2 ^ 23

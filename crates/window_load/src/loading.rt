@@ -3,6 +3,7 @@ ghost use Rattle.std.specs.Prelude.{◌≡◌, ◌<◌, ◌≤◌, ◌^◌, true
 ghost use Rattle.std.specs.Io.KnownBytes.{IsAtEnd};
 ghost use Rattle.csv_source.specs.Causes.{Rose};
 ghost use Rattle.reject_book.specs.declared.book.Keep.TheVariants.{First as first_of};
+ghost use Rattle.load_options.specs.declared.limits.TheConstants.{MAX_LINE_SIZE, RANGE_SIZE};
 ghost use Rattle.range_scan.specs.Scanned.{HasColumns};
 ghost use Rattle.window_load.specs.DataRead.{IsWindowRead, Comes, ComesWhole, ComesOver};
 ghost use Rattle.window_load.specs.declared.stop.LoadStop.TheVariants as stops;
@@ -39,8 +40,8 @@ pub fn window_load<R: Threads + Sync, S: Source, G: Gate>(
     requires room { head.most ≤ 2 ^ 32 }
     requires at_end { head.ended ≡ true → IsAtEnd (S.left source.old) }
     requires some { 0 < range_size }
-    requires within { range_size ≤ 67_108_864 }
-    requires line { context.now.schema.max_line_size ≤ 4_194_304 }
+    requires within { range_size ≤ RANGE_SIZE.most }
+    requires line { context.now.schema.max_line_size ≤ MAX_LINE_SIZE.most }
     requires fits { HasColumns context.now.schema }
     requires threads { (1 ≤ threads) × (threads ≤ 64) }
     requires keep { stop ≡ true → context.now.keep ≡ first_of 1 }
