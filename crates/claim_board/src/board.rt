@@ -100,32 +100,3 @@ impl Board {
         word.min(count)
     }
 }
-
-#[cfg(test)]
-mod tests {
-    use super::*;
-    use std::test::Fail;
-
-    #[test]
-    fn draws_each_number_once(rt: HostRuntime) -> Result<(), Fail> {
-        let (board, mut drawer) = Board::new(rt.alloc(), 2)?;
-        assert_eq!(rt; board.claim(&mut drawer), Claim::Range(0));
-        assert_eq!(rt; board.claim(&mut drawer), Claim::Range(1));
-        assert_eq!(rt; board.claim(&mut drawer), Claim::AllDrawn);
-        assert_eq!(rt; board.claim(&mut drawer), Claim::AllDrawn);
-        assert_eq!(rt; board.close(drawer), 2);
-        Ok(())
-    }
-
-    #[test]
-    fn two_drawers_share_the_numbers(rt: HostRuntime) -> Result<(), Fail> {
-        let (board, mut drawer) = Board::new(rt.alloc(), 5)?;
-        let mut other = board.split(&mut drawer);
-        assert_eq!(rt; board.claim(&mut other), Claim::Range(0));
-        assert_eq!(rt; board.claim(&mut drawer), Claim::Range(1));
-        assert_eq!(rt; board.claim(&mut other), Claim::Range(2));
-        board.join(&mut drawer, other);
-        assert_eq!(rt; board.close(drawer), 3);
-        Ok(())
-    }
-}

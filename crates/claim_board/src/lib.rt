@@ -10,8 +10,6 @@
 mod board;
 mod claim;
 mod drawer;
-#[cfg(test)]
-mod orders;
 mod rule;
 
 pub use board::Board;

@@ -14,8 +14,6 @@ mod nullable;
 mod nullable_texts;
 mod stacking;
 mod table;
-#[cfg(test)]
-mod tests;
 mod unwrapping;
 
 pub use chunk::Chunk;

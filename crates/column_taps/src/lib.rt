@@ -20,8 +20,6 @@ mod showing;
 mod slot;
 mod span;
 mod tap;
-#[cfg(test)]
-mod tests;
 mod text_columns;
 mod width;
 

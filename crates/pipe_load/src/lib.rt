@@ -19,11 +19,7 @@ mod rule;
 mod scanner;
 mod slots;
 mod stage;
-#[cfg(test)]
-mod stage_tests;
 mod stages;
-#[cfg(test)]
-mod tests;
 pub mod window;
 mod windows;
 

@@ -17,8 +17,6 @@ mod rows;
 mod runs;
 mod shown;
 mod table;
-#[cfg(test)]
-mod tests;
 mod text;
 mod workers;
 

@@ -1,0 +1,5 @@
+mod contexts;
+mod crew;
+mod pipe;
+mod stages;
+mod windows;

@@ -1,0 +1,13 @@
+mod automaton;
+mod board;
+mod books;
+mod chain;
+mod classes;
+mod dialects;
+mod guesses;
+mod ranges;
+mod rejects;
+mod rows;
+mod schemas;
+mod shown;
+mod steps;

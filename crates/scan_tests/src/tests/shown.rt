@@ -1,0 +1,23 @@
+//! Values as text, each with a bar before it.
+use csv_source::NoMemory;
+use itoa::Buffer;
+use value_types::{Cell, Value};
+
+pub fn push_text(text: &[u8], out: &mut Vec<u8>) -> Result<(), NoMemory> {
+    out.push(b'|')?;
+    out.extend_from_slice(text)?;
+    Ok(())
+}
+
+pub fn push_number(number: u64, out: &mut Vec<u8>) -> Result<(), NoMemory> {
+    push_text(Buffer::new().format(number).as_bytes(), out)
+}
+
+pub fn push_cell(cell: Cell<'_>, out: &mut Vec<u8>) -> Result<(), NoMemory> {
+    match cell {
+        Cell::Null => push_text(b"\\N", out),
+        Cell::Value(Value::Int(number)) => push_text(Buffer::new().format(number).as_bytes(), out),
+        Cell::Value(_) => push_text(b"?", out),
+        Cell::Text(text) => push_text(text, out),
+    }
+}

@@ -1,0 +1,4 @@
+mod options;
+mod ranking;
+mod sniffing;
+mod words;

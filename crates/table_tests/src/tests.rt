@@ -1,0 +1,9 @@
+mod files;
+mod lists;
+mod report;
+mod sources;
+mod store;
+mod tables;
+mod taps;
+mod values;
+mod writer;

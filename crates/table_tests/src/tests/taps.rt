@@ -1,0 +1,33 @@
+//! Taps in slots, as a program hands them in.
+use column_taps::{CountTap, DistinctTap, RowTap, Slot, SpanTap, TapKind, WidthTap, write_slots};
+use csv_source::NoMemory;
+
+fn hand_in(slots: &mut Vec<Slot>, tap: Box<dyn RowTap>) -> Result<(), NoMemory> {
+    slots.push(Slot::Live(tap))?;
+    Ok(())
+}
+
+#[test]
+fn taps_write_lines_in_their_order(rt: HostRuntime) -> Result<(), NoMemory> {
+    let alloc = rt.alloc();
+    let mut slots = Vec::new(alloc);
+    hand_in(&mut slots, Box::new(alloc, CountTap::new())?)?;
+    hand_in(&mut slots, Box::new(alloc, SpanTap::new(alloc))?)?;
+    slots.push(Slot::Over(7))?;
+    hand_in(&mut slots, Box::new(alloc, WidthTap::new(alloc))?)?;
+    hand_in(&mut slots, Box::new(alloc, DistinctTap::new(alloc, 1000))?)?;
+    let mut text = Vec::new(alloc);
+    write_slots(&slots, &mut text)?;
+    let want: &[u8] = b"tap|count|0|0\ntap|over|7\ntap|distinct|0\n";
+    assert_eq!(rt; text.as_slice(), want);
+    Ok(())
+}
+
+#[test]
+fn each_tap_tells_its_kind(rt: HostRuntime) {
+    let alloc = rt.alloc();
+    assert_eq!(rt; CountTap::new().kind(), TapKind::Count);
+    assert_eq!(rt; SpanTap::new(alloc).kind(), TapKind::Span);
+    assert_eq!(rt; WidthTap::new(alloc).kind(), TapKind::Width);
+    assert_eq!(rt; DistinctTap::new(alloc, 7).kind(), TapKind::Distinct(7));
+}

@@ -1,0 +1,158 @@
+//! What texts are cast to, and what is printed for it.
+ghost use Rattle.std.specs.Prelude.{◌≢◌};
+ghost use Rattle.value_types.specs.declared.types.ColumnType.TheVariants.{Varchar};
+
+use std::process::Abort;
+use value_types::{
+    ColumnType, Value, cast, cast_bigint, cast_boolean, cast_date, cast_time, cast_timestamp,
+    is_null, number_within, write_value,
+};
+
+/// A text, and the value that it is cast to.
+struct Text(&'static str, Option<Value>);
+
+fn check_casts(rt: &impl Abort, ty: ColumnType, rows: &[Text])
+    requires { ty ≢ Varchar }
+{
+    for row in rows {
+        assert_eq!(rt; cast(row.0.as_bytes(), ty), row.1, "{}", row.0);
+    }
+}
+
+const BOOLEANS: [Text; 3] = [
+    Text("TRUE", Some(Value::Bool(true))),
+    Text(" false ", Some(Value::Bool(false))),
+    Text("1", None),
+];
+
+const NUMBERS: [Text; 9] = [
+    Text(" +7 ", Some(Value::Int(7))),
+    Text("-9223372036854775808", Some(Value::Int(i64::MIN))),
+    Text("0000000000000000000012", Some(Value::Int(12))),
+    Text("9223372036854775808", None),
+    Text("1e3", None),
+    Text("+", None),
+    Text("", None),
+    Text("1 2", None),
+    Text("7\t", None),
+];
+
+const TIMES: [Text; 3] = [
+    Text("10:00:00.5", Some(Value::Time(36_000_500_000))),
+    Text("23:59:60", None),
+    Text("10:00:00.", None),
+];
+
+const STAMPS: [Text; 3] = [
+    Text("1970-01-02T00:00:01", Some(Value::Stamp(86_401_000_000))),
+    Text("1970-01-02", Some(Value::Stamp(86_400_000_000))),
+    Text("2020-01-02T10:30", None),
+];
+
+const DATES: [Text; 23] = [
+    Text("2024-02-29", Some(Value::Date(19_782))),
+    Text("2000-02-29", Some(Value::Date(11_016))),
+    Text("0001-01-01", Some(Value::Date(-719_162))),
+    Text("9999-12-31", Some(Value::Date(2_932_896))),
+    Text("1900-02-29", None),
+    Text("2023-02-29", None),
+    Text("2024-2-29", None),
+    Text("2024-02- 9", None),
+    Text("2024/02/29", None),
+    Text("2023-01-31", Some(Value::Date(19_388))),
+    Text("2023-02-28", Some(Value::Date(19_416))),
+    Text("2023-03-31", Some(Value::Date(19_447))),
+    Text("2023-04-30", Some(Value::Date(19_477))),
+    Text("2023-05-31", Some(Value::Date(19_508))),
+    Text("2023-06-30", Some(Value::Date(19_538))),
+    Text("2023-07-31", Some(Value::Date(19_569))),
+    Text("2023-08-31", Some(Value::Date(19_600))),
+    Text("2023-09-30", Some(Value::Date(19_630))),
+    Text("2023-10-31", Some(Value::Date(19_661))),
+    Text("2023-11-30", Some(Value::Date(19_691))),
+    Text("2023-12-31", Some(Value::Date(19_722))),
+    Text("2023-04-31", None),
+    Text("2023-13-01", None),
+];
+
+#[test]
+fn texts_are_cast(rt: HostRuntime) {
+    check_casts(&rt, ColumnType::Boolean, &BOOLEANS);
+    check_casts(&rt, ColumnType::Bigint, &NUMBERS);
+    check_casts(&rt, ColumnType::Date, &DATES);
+    check_casts(&rt, ColumnType::Time, &TIMES);
+    check_casts(&rt, ColumnType::Timestamp, &STAMPS);
+}
+
+#[test]
+fn each_type_has_a_cast_of_its_own(rt: HostRuntime) {
+    assert_eq!(rt; cast_boolean(b"false"), Some(false));
+    assert_eq!(rt; cast_bigint(b"-7"), Some(-7));
+    assert_eq!(rt; cast_date(b"2024-02-29"), Some(19_782));
+    assert_eq!(rt; cast_time(b"10:00:00.5"), Some(36_000_500_000));
+    assert_eq!(rt; cast_timestamp(b"1970-01-02"), Some(86_400_000_000));
+}
+
+/// A type, a text of it, and what is printed for its value.
+struct Printed(ColumnType, &'static str, &'static str);
+
+const PRINTED: [Printed; 5] = [
+    Printed(ColumnType::Boolean, " TRUE ", "true"),
+    Printed(ColumnType::Bigint, "-007", "-7"),
+    Printed(ColumnType::Date, "0044-03-15", "0044-03-15"),
+    Printed(ColumnType::Time, "10:00:00.5", "10:00:00.500000"),
+    Printed(
+        ColumnType::Timestamp,
+        "1969-12-31T23:59:59.999999",
+        "1969-12-31 23:59:59.999999",
+    ),
+];
+
+/// Casts the text, prints its value, and compares.
+fn prints(rt: &impl Abort, ty: ColumnType, text: &[u8], want: &[u8], into: &mut Vec<u8>)
+    requires { ty ≢ Varchar }
+{
+    into.clear();
+    match cast(text, ty) {
+        Some(value) => {
+            let written = write_value(&value, into).is_ok();
+            assert!(rt; written);
+        }
+        None => assert!(rt; false),
+    }
+    assert_eq!(rt; into.as_slice(), want);
+}
+
+#[test]
+fn what_was_cast_is_printed(rt: HostRuntime) {
+    let mut into = Vec::new(rt.alloc());
+    for row in &PRINTED {
+        assert!(rt; row.0 != ColumnType::Varchar);
+        prints(&rt, row.0, row.1.as_bytes(), row.2.as_bytes(), &mut into);
+    }
+}
+
+/// A text, a limit, and the number that the digits spell.
+struct Digits(&'static str, u64, Option<u64>);
+
+const DIGITS: [Digits; 6] = [
+    Digits("", 0, Some(0)),
+    Digits("007", 7, Some(7)),
+    Digits("8", 7, None),
+    Digits("1a", 100, None),
+    Digits("18446744073709551615", u64::MAX, Some(u64::MAX)),
+    Digits("18446744073709551616", u64::MAX, None),
+];
+
+#[test]
+fn digits_spell_numbers_within_a_limit(rt: HostRuntime) {
+    for row in &DIGITS {
+        assert_eq!(rt; number_within(row.0.as_bytes(), row.1), row.2, "{}", row.0);
+    }
+}
+
+#[test]
+fn a_quoted_null_has_to_be_allowed(rt: HostRuntime) {
+    assert!(rt; is_null(b"-", false, false, b"-") && is_null(b"-", true, true, b"-"));
+    assert!(rt; !is_null(b"-", false, true, b"-") && !is_null(b"-", true, false, b""));
+}
