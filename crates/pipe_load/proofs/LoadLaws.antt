@@ -12,17 +12,17 @@ use Rattle.quote_automaton.specs.declared.state.State.TheVariants.{RowStart}
 use Rattle.range_guess.specs.Cut.{range_count}
 use Rattle.range_scan.specs.declared.context.Context.{Context}
 use Rattle.range_scan.specs.Joined.{IsJoinedPart, IsBegun}
-use Rattle.range_scan.specs.Part.{Part, part_of, no_part}
-use Rattle.range_scan.specs.Scanned.{judge_in}
-use Rattle.range_scan.proofs.RangeLaws.{count_covers, no_part_at}
+use Rattle.range_scan.specs.Part.{Part}
+use Rattle.range_scan.proofs.RangeLaws.{count_covers}
 use Rattle.value_types.specs.Datum.{Datum}
 use Rattle.reject_book.specs.declared.reject.Reject.{Reject}
 use Rattle.pipe_load.specs.declared.joining.Counted.{Counted}
 use Rattle.pipe_load.specs.declared.layout.Layout.{Layout}
 use Rattle.pipe_load.specs.declared.window.Window.{Window}
-use Rattle.pipe_load.specs.Joining.{AddsRanges, IsJoinedTo, front_part, stretch_len}
+use Rattle.pipe_load.specs.Joining.{AddsRanges, IsJoinedTo, stretch_len}
 use Rattle.pipe_load.specs.Loading.{data_read}
 use Rattle.window_load.specs.DataRead.{IsDataRead}
+use Rattle.window_load.proofs.RangeSteps.{begun, all_ranges}
 use Rattle.pipe_load.specs.Layout.{IsLayout, stride, want, window_start, window_of, windows_of, stretch_of, layout_of}
 use Rattle.pipe_load.specs.PassViews.{IsOneOf}
 use Rattle.pipe_load.proofs.CountLaws.{count_less, count_at_most}
@@ -92,15 +92,10 @@ module _ (context : Context) (l : Layout) (layout : IsLayout l) (text : List ℕ
   pub first_window : (new : Counted) → IsBegun context RowStart new.joined → new.ranges ≡ 0 → new.length ≡ 0 → IsJoinedTo context text l.data_start z (min (0 * r) all) new
   first_window new h ranges bytes =
       let none : min (0 * r) all ≡ 0 = omega arith in
-      let empty : 0 ≡ min (0 * z) (length text) = omega arith in
-      let nothing : no_part RowStart ≡ front_part context text l.data_start z 0 =
-      no_part_at (judge_in context) context.dialect text l.data_start 0 RowStart ∙ ap (λ to. part_of (judge_in context) context.dialect text l.data_start 0 to RowStart) empty in
       subst (λ j. IsJoinedTo context text l.data_start z j new) (sym none) record {
-        part = subst (λ (p : Part (List Datum) Reject). IsJoinedPart context p new.joined) nothing h.part;
+        joined = begun context text l.data_start z new.joined h;
         ranges = ranges;
-        bytes = bytes ∙ empty;
-        rescans = h.rescans;
-        rescanned = h.rescanned;
+        bytes = bytes ∙ (let empty : 0 ≡ min (0 * z) (length text) = omega arith in empty);
       }
 
   -- all windows
@@ -118,9 +113,7 @@ module _ (context : Context) (l : Layout) (layout : IsLayout l) (text : List ℕ
   all_read counted h =
       let covers : length text ≤ all * z = count_covers (length text) z layout.some in
       let front : min (all * z) (length text) ≡ length text = omega (arith, covers) in
-      let part : front_part context text l.data_start z all ≡ part_of (judge_in context) context.dialect text l.data_start 0 (length text) RowStart =
-      ap (λ to. part_of (judge_in context) context.dialect text l.data_start 0 to RowStart) front in
-      let whole = subst (λ (p : Part (List Datum) Reject). IsJoinedPart context p counted.joined) part h.part in
+      let whole = subst (λ (p : Part (List Datum) Reject). IsJoinedPart context p counted.joined) (all_ranges context text l.data_start z layout.some) h.joined.part in
       record {
         end = whole.end;
         types = whole.types;
@@ -129,8 +122,8 @@ module _ (context : Context) (l : Layout) (layout : IsLayout l) (text : List ℕ
         line_ends = whole.line_ends;
         bytes = h.bytes ∙ front;
         ranges = h.ranges;
-        rescanned_ranges = h.rescans;
-        scanned = ap (λ n. length text + n) h.rescanned;
+        rescanned_ranges = h.joined.rescans;
+        scanned = ap (λ n. length text + n) h.joined.rescanned;
       }
 
 -- an entry behind the first ones

@@ -24,7 +24,8 @@ use Rattle.pipe_load.specs.declared.joining.Counted.{Counted}
 use Rattle.pipe_load.specs.declared.layout.Layout.{Layout}
 use Rattle.pipe_load.specs.declared.layout.Stretch.{Stretch}
 use Rattle.pipe_load.specs.declared.window.Window.{Window}
-use Rattle.pipe_load.specs.Joining.{AddsRange, AddsRanges, IsJoinedTo, front_end, stretch_len}
+use Rattle.window_load.specs.Ranges.{ranges_end}
+use Rattle.pipe_load.specs.Joining.{AddsRange, AddsRanges, IsJoinedTo, stretch_len}
 use Rattle.pipe_load.specs.Layout.{IsLayout, stride, want, window_start, window_of, stretch_of, span_of}
 use Rattle.pipe_load.specs.Scanning.{opening_of}
 use Rattle.pipe_load.proofs.CuttingLaws.{drop-drop, some_stride}
@@ -166,10 +167,10 @@ module _ (context : Context) (l : Layout) (layout : IsLayout l) (text : List ℕ
   pub in_data : j * z ≤ length text
   in_data = let p = place in let b = before in omega (arith, p, b)
 
-  front_is : start + span.from ≡ front_end text z j
+  front_is : start + span.from ≡ ranges_end text z j
   front_is = let p = place in let b = before in let a = begins_at in omega (arith, p, b, a)
 
-  next_is : start + span.to ≡ front_end text z (j + 1)
+  next_is : start + span.to ≡ ranges_end text z (j + 1)
   next_is = ends_at ∙ ap (λ m. min m (length text)) (sym next_place)
 
   led : (start ≡ 0) ⊎ (0 < span.from)
@@ -188,7 +189,7 @@ module _ (context : Context) (l : Layout) (layout : IsLayout l) (text : List ℕ
   start_inside : start ≤ length text
   start_inside = let p = at in let q = inside in omega (arith, p, q)
 
-  pub part_is : (o : State) → span_part context w.bytes st.base span o ≡ part_of (judge_in context) context.dialect text l.data_start (front_end text z j) (front_end text z (j + 1)) o
+  pub part_is : (o : State) → span_part context w.bytes st.base span o ≡ part_of (judge_in context) context.dialect text l.data_start (ranges_end text z j) (ranges_end text z (j + 1)) o
   part_is o =
       in_text (judge_in context) context.schema.max_line_size (first_bytes_decide context.dialect context.schema context.scan_id context.file_id) context.dialect text l.data_start start (want l k) span.from span.to o
       start_inside from_to to_within led reached
@@ -226,8 +227,8 @@ module _ (context : Context) (l : Layout) (layout : IsLayout l) (text : List ℕ
 pub adds_more : (context : Context) (l : Layout) (w : Window) (n : ℕ) (old mid new : Counted) → IsLayout l → n < stretch_len l w →
     AddsRanges context l w n old mid → AddsRange context w.bytes (stretch_of l w).base (span_of (stretch_of l w) n) mid new → AddsRanges context l w (n + 1) old new
 adds_more context l w n old mid new layout below h adds = record {
-  types = adds.adds.types ∙ h.types;
-  keep = ap (λ b. b.keep) adds.adds.book ∙ h.keep;
+  types = adds.joins.adds.types ∙ h.types;
+  keep = ap (λ b. b.keep) adds.joins.adds.book ∙ h.keep;
   joins = λ text k is begins reach before.
       let same : k * l.ranges + n + 1 ≡ k * l.ranges + (n + 1) = omega arith in
       let under : n < stretch_len l (window_of l text k) = subst (λ (x : Window). n < stretch_len l x) is below in

@@ -1,15 +1,14 @@
 -- How the ranges of windows are scanned first, and what a stage keeps.
-use Rattle.std.specs.Prelude.{◌≡◌, ℕ, false, ◌==◌, if◌then◌else◌, List, length, map, slice_range, All}
+use Rattle.std.specs.Prelude.{◌≡◌, ℕ, false, ◌==◌, if◌then◌else◌, List, length, map, All}
 use Rattle.std.specs.List.{range_with_len}
 use Rattle.byte_classes.specs.Dialect.{Marks}
-use Rattle.byte_classes.specs.Places.{byte_before}
 use Rattle.quote_automaton.specs.declared.state.State.{State}
 use Rattle.quote_automaton.specs.declared.state.State.TheVariants.{RowStart}
-use Rattle.range_guess.specs.Guess.{guess}
 use Rattle.range_scan.specs.declared.context.Context.{Context}
 use Rattle.range_scan.specs.declared.span.Span.{Span}
 use Rattle.range_scan.specs.Scanned.{Scanned, scanned}
 use Rattle.crossbeam_queue.specs.Passes.{view, IsPassOf}
+use Rattle.window_load.specs.Ranges.{guess_of}
 use Rattle.pipe_load.specs.declared.layout.Layout.{Layout}
 use Rattle.pipe_load.specs.declared.scanner.Kept.{Kept}
 use Rattle.pipe_load.specs.declared.stage.Stage.{Stage}
@@ -19,7 +18,7 @@ use Rattle.pipe_load.specs.Layout.{stretch_of, span_of}
 
 -- the state in which a range is scanned first: the data's first range opens where a row begins, any other in its guess
 abbrev pub opening_of : Marks → List ℕ → Span → State
-opening_of d bytes span = if span.number == 0 then RowStart else guess d (slice_range bytes span.from span.to) (byte_before bytes span.from)
+opening_of d bytes span = if span.number == 0 then RowStart else guess_of d bytes span
 
 -- range i of a window, scanned in that state, and the first n ranges
 abbrev pub guessed_part : Context → Layout → Window → ℕ → Scanned

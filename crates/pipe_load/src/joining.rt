@@ -11,12 +11,10 @@ use csv_source::{Gate, NoMemory};
 use quote_automaton::State;
 use range_scan::{Context, Joined, Part, Span, sum_of};
 use std::alloc::Global;
+use window_load::GROUP_LEN;
 
 /// The caller's number where it scans.
 const CALLER: u32 = 0;
-
-/// How many ranges a group has.
-const GROUP_LEN: u64 = 64;
 
 /// What the ranges that were joined so far come to.
 #[derive(Drop)]

@@ -5,13 +5,12 @@ ghost use Rattle.pipe_load.specs.Layout.{IsLayout, IsStretchOf};
 
 use crate::layout::{Layout, Stretch};
 use crate::window::Window;
-use byte_classes::byte_before;
 use csv_source::{Gate, NoMemory};
 use quote_automaton::State;
-use range_guess::guess;
 use range_scan::{Context, Part, Span, scan};
 use std::alloc::Global;
 use std::collections::VecDeque;
+use window_load::guess_of;
 
 /// A window with the parts of its first ranges, each opened in its guess.
 #[derive(Drop)]
@@ -43,11 +42,7 @@ impl<'a, G: Gate> Scanner<'a, G> {
         if span.number == 0 {
             return State::RowStart;
         }
-        guess(
-            &self.context.dialect,
-            &bytes[span.from..span.to],
-            byte_before(bytes, span.from),
-        )
+        guess_of(&self.context.dialect, bytes, span)
     }
 
     /// Scans a range from a state.

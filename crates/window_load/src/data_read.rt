@@ -2,7 +2,7 @@
 ghost use Rattle.std.specs.Prelude.{◌≡◌, ◌<◌};
 ghost use Rattle.window_load.specs.DataRead.{window_read};
 
-use crate::groups_read::GroupsRead;
+use crate::ranges_read::RangesRead;
 use column_store::Table;
 use quote_automaton::State;
 use range_guess::cut;
@@ -33,12 +33,12 @@ pub enum WindowRead {
 }
 
 /// What the groups of so many bytes of data come to.
-pub fn window_read(read: GroupsRead, length: u64, range_size: u64) -> WindowRead
+pub fn window_read(read: RangesRead, length: u64, range_size: u64) -> WindowRead
     requires some { 0 < range_size }
     ensures { result ≡ window_read read length range_size }
 {
     match read {
-        GroupsRead::All(
+        RangesRead::All(
             Joined {
                 end,
                 table,
@@ -57,6 +57,6 @@ pub fn window_read(read: GroupsRead, length: u64, range_size: u64) -> WindowRead
             rescans,
             rescanned,
         }),
-        GroupsRead::Stopped(reject) => WindowRead::Stopped(reject),
+        RangesRead::Stopped(reject) => WindowRead::Stopped(reject),
     }
 }

@@ -1,9 +1,9 @@
 use Rattle.std.proofs.Common.{◌≡◌, ◌+◌, ◌<◌, ◌≤◌, ◌^◌, sym, subst, ap, ◌∙◌, length, refl, arith}
 use Rattle.reject_book.specs.BookView.{BookView}
-use Rattle.load_crew.specs.declared.group_read.GroupRead.{GroupRead}
-use Rattle.window_load.specs.Groups.{group_in, group_reach}
+use Rattle.window_load.specs.Groups.{group_reach}
 use Rattle.window_load.specs.Window.{WindowView, IsFilled, reach}
-use Rattle.window_load.proofs.GroupsRead.{IsReadSoFar, read_none, read_more, read_all, read_next, some_reject, read_stopped, in_window, are_types, is_keep, read_in_next}
+use Rattle.window_load.proofs.GroupsRead.{read_none, read_more, read_all, read_stopped, in_window, are_types, is_keep, read_in_next}
+use Rattle.window_load.proofs.GroupWindows.{group_width}
 use Rattle.window_load.proofs.GroupTasks.{is_task, numbers_within}
 use Rattle.window_load.proofs.WindowSteps.{at_within, at_below}
 use Rattle.window_load.proofs.groups.read_groups.Goals as goal
@@ -37,7 +37,7 @@ read_by_crew-requires-clause-group g c κs within =
     c.loop-joined.number c.loop-joined.at c.loop-joined.joined c.loop-joined.invariant.0 (g.S.Source.left c.fill_to.new.source) c.fill_to.new.self
     c.fill_to.ensures.moved c.fill_to.ensures.same.0 c.fill_to.ensures.same.1 c.fill_to.ensures.stays in
     let there : c.loop-joined.at < length c.fill_to.new.self.kept = at_below c.loop-joined.at c.len.result (length c.fill_to.new.self.kept) c.if-at-len.false c.len.ensures
-    (at_within c.args.course.start c.args.course.range_size c.loop-joined.number c.loop-joined.at _ c.fill_to.new.self so_far.stands) in
+    (at_within c.args.course.start (group_width c.args.course.range_size) c.loop-joined.number c.loop-joined.at _ c.fill_to.new.self so_far.stands) in
     let before : c.loop-joined.at < c.len-in-loop-joined.result = omega (arith, there, c.len-in-loop-joined.ensures) in
     let is_len : c.len-in-loop-joined.result ≡ length c.bytes-bytes.result.now = c.len-in-loop-joined.ensures ∙ sym (ap length c.bytes-bytes.ensures) in
     let reaches : reach c.fill_to.new.self ≤ 2 ^ 32 = omega (arith, c.in_ok-fill_to.ensures.ok.1, so_far.most, c.requires.room) in
@@ -90,7 +90,7 @@ returns-then-read-clause-ok g c =
     let filled : IsFilled (c.loop-joined.at + group_reach c.args.course.range_size c.args.context.now.schema.max_line_size) c.fill_to.new.self =
     subst (λ n. IsFilled (c.loop-joined.at + n) c.fill_to.new.self) c.group_reach-ahead.ensures c.in_ok-fill_to.ensures.ok in
     let there : c.loop-joined.at < length c.fill_to.new.self.kept = at_below c.loop-joined.at c.len.result (length c.fill_to.new.self.kept) c.if-at-len.false c.len.ensures
-    (at_within c.args.course.start c.args.course.range_size c.loop-joined.number c.loop-joined.at _ c.fill_to.new.self so_far.stands) in
+    (at_within c.args.course.start (group_width c.args.course.range_size) c.loop-joined.number c.loop-joined.at _ c.fill_to.new.self so_far.stands) in
     let is = in_window c.args.context.now c.bytes-bytes.result.now c.fill_to.new.self.kept c.base-base.result c.fill_to.new.self.base c.group_in-group.result
     c.loop-joined.at c.len-in-loop-joined.result c.args.course.range_size c.loop-joined.number c.loop-joined.joined.end c.args.course.stop c.in_ok-read.read
     c.bytes-bytes.ensures c.base-base.ensures c.group_in-group.ensures c.len-in-loop-joined.ensures c.in_ok-read.ensures.ok in
@@ -118,7 +118,7 @@ loop-joined-preserved g c =
     let filled : IsFilled (c.loop-joined.at + group_reach c.args.course.range_size c.args.context.now.schema.max_line_size) c.fill_to.new.self =
     subst (λ n. IsFilled (c.loop-joined.at + n) c.fill_to.new.self) c.group_reach-ahead.ensures c.in_ok-fill_to.ensures.ok in
     let there : c.loop-joined.at < length c.fill_to.new.self.kept = at_below c.loop-joined.at c.len.result (length c.fill_to.new.self.kept) c.if-at-len.false c.len.ensures
-    (at_within c.args.course.start c.args.course.range_size c.loop-joined.number c.loop-joined.at _ c.fill_to.new.self so_far.stands) in
+    (at_within c.args.course.start (group_width c.args.course.range_size) c.loop-joined.number c.loop-joined.at _ c.fill_to.new.self so_far.stands) in
     let is = in_window c.args.context.now c.bytes-bytes.result.now c.fill_to.new.self.kept c.base-base.result c.fill_to.new.self.base c.group_in-group.result
     c.loop-joined.at c.len-in-loop-joined.result c.args.course.range_size c.loop-joined.number c.loop-joined.joined.end c.args.course.stop c.in_ok-read.read
     c.bytes-bytes.ensures c.base-base.ensures c.group_in-group.ensures c.len-in-loop-joined.ensures c.in_ok-read.ensures.ok in (

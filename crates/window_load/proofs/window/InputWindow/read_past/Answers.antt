@@ -1,5 +1,5 @@
-use Rattle.std.proofs.Common.{◌≡◌, ◌+◌, ◌≤◌, Bool, false, true, length, sym, ◌∙◌, ap, subst, arith, rules}
-use Rattle.window_load.specs.Window.{WindowView, reach, behind_front}
+use Rattle.std.proofs.Common.{◌≡◌, ◌+◌, ◌≤◌, false, true, ◌∙◌, ap, arith}
+use Rattle.window_load.specs.Window.{WindowView, reach}
 use Rattle.window_load.proofs.ReachedOn.{drops_and_reaches, reaches_twice, less_to_come, bounded, going_on}
 use Rattle.window_load.proofs.window.InputWindow.read_past.Goals as goal
 

@@ -1,0 +1,89 @@
+//! The ranges of the data, one after another in a window.
+ghost use Rattle.std.specs.Prelude.{◌≡◌, ◌+◌, ◌<◌, ◌≤◌, ◌^◌, true, length, IfOk, Err};
+ghost use Rattle.std.specs.Io.KnownBytes.{IsAtEnd};
+ghost use Rattle.csv_source.specs.Causes.{Rose};
+ghost use Rattle.reject_book.specs.declared.book.Keep.TheVariants.{First as first_of};
+ghost use Rattle.load_options.specs.declared.limits.TheConstants.{MAX_LINE_SIZE, RANGE_SIZE};
+ghost use Rattle.window_load.specs.Ranges.{span_in, range_reach};
+ghost use Rattle.window_load.specs.Reading.{IsReadInWindows};
+ghost use Rattle.window_load.specs.Window.{reach, ReachesOn};
+ghost use Rattle.window_load.specs.declared.stop.LoadStop.TheVariants as stops;
+
+use crate::course::Course;
+use crate::ranges_read::RangesRead;
+use crate::reject::first_reject;
+use crate::scanner::Scanner;
+use crate::stop::LoadStop;
+use crate::window::InputWindow;
+use csv_source::{Gate, Source};
+use quote_automaton::State;
+use range_scan::{Joined, Span};
+
+/// The range with this number, which begins at a place of a window of so many bytes.
+fn span_in(at: usize, window_length: usize, range_size: u64, number: u64) -> Span
+    requires within { at < window_length }
+    requires room { window_length ≤ 2 ^ 33 }
+    requires fits { range_size ≤ RANGE_SIZE.most }
+    ensures { result ≡ span_in at window_length range_size number }
+{
+    Span {
+        number,
+        from: at,
+        to: window_length.min(at + range_size as usize),
+    }
+}
+
+/// How many bytes of the data a window holds from a range's beginning on.
+fn range_reach(range_size: u64, line_size: u64) -> usize
+    requires fits { range_size ≤ RANGE_SIZE.most }
+    requires line { line_size ≤ MAX_LINE_SIZE.most }
+    ensures { result ≡ range_reach range_size line_size }
+{
+    (range_size + (line_size + 1)) as usize
+}
+
+/// Reads the ranges of the data, which begin with the window, one after another on the caller's thread. Of each range the
+/// last byte is held for the next one. So little is held that it stays in the processor's caches between its reading and
+/// its scan, where a group of ranges would take fresh memory.
+pub fn read_ranges<S: Source, G: Gate>(
+    scanner: &Scanner<'_, G>,
+    course: Course,
+    window: &mut InputWindow,
+    source: &mut S,
+) -> Result<RangesRead, LoadStop>
+    requires some { 0 < course.range_size }
+    requires within { course.range_size ≤ RANGE_SIZE.most }
+    requires line { scanner.now.context.now.schema.max_line_size ≤ MAX_LINE_SIZE.most }
+    requires begins { window.old.base ≡ course.start }
+    requires room { window.old.most ≤ 2 ^ 32 }
+    requires keep { course.stop ≡ true → scanner.now.context.now.keep ≡ first_of 1 }
+    requires at_end { window.old.ended ≡ true → IsAtEnd (S.left source.old) }
+    ensures ok { IfOk result (λ read. IsReadInWindows scanner.now.context.now course (S.left source.old) (S.left source.new) window.old window.new read) }
+    ensures too_large { result ≡ Err stops.TooLarge → reach window.new ≡ window.new.most + 1 }
+    ensures moved { ReachesOn (S.left source.old) (S.left source.new) window.old window.new }
+    ensures at_end { window.new.ended ≡ true → IsAtEnd (S.left source.new) }
+    ensures held { S.held source.new ≡ S.held source.old }
+    ensures count { S.faults source.old ≤ S.faults source.new }
+    ensures failed { result ≡ Err stops.Failed → Rose (S.faults source.old) (S.faults source.new) }
+{
+    let (alloc, context) = (scanner.alloc, scanner.context);
+    let mut joined = Joined::new(alloc, context, State::RowStart)?;
+    let ahead = range_reach(course.range_size, context.schema.max_line_size);
+    let mut at = 0;
+    let mut number = 0;
+    loop {
+        window.fill_to(source, at + ahead)?;
+        if at == window.len() {
+            return Ok(RangesRead::All(joined));
+        }
+        let span = span_in(at, window.len(), course.range_size, number);
+        scanner.add_range(&mut joined, window.bytes(), window.base(), &span)?;
+        if course.stop && joined.book.len() > 0 {
+            let reject = first_reject(alloc, &joined.book, 0)?;
+            return Ok(RangesRead::Stopped(reject));
+        }
+        window.drop_front(span.to - 1);
+        at = 1;
+        number += 1;
+    }
+}
