@@ -1,5 +1,5 @@
 -- One more range of the data is joined.
-use Rattle.std.proofs.Common.{◌≡◌, ℕ, ◌+◌, ◌-◌, ◌*◌, ◌%◌, ◌≤◌, min, Bool, true, false, not, ◌&&◌, cond, List, length, take, drop, refl, sym, ap, ◌∙◌, arith, length-take, length-drop, eq-eqb}
+use Rattle.std.proofs.Common.{◌≡◌, ℕ, ◌+◌, ◌-◌, ◌*◌, ◌%◌, ◌≤◌, min, Bool, true, false, not, ◌&&◌, cond, List, length, drop, refl, sym, ap, ◌∙◌, arith, length-take, length-drop, eq-eqb}
 use Rattle.std.specs.Prelude.{◌==◌}
 use Rattle.byte_classes.specs.Dialect.{Marks}
 use Rattle.byte_classes.specs.Places.{byte_before}
