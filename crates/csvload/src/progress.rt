@@ -29,7 +29,7 @@ struct ProgressLine<'a, R> {
 }
 
 /// How much was read, of how much where the file tells its size, which a pipe doesn't.
-pub fn progress_text(alloc: Global, read: u64, size: u64) -> Result<String, NoMemory> {
+fn progress_text(alloc: Global, read: u64, size: u64) -> Result<String, NoMemory> {
     let (read, size) = (read / MEGABYTE, size / MEGABYTE);
     let text = if size < read {
         format!(in alloc; "csvload: {read} MB read")?
