@@ -11,9 +11,9 @@ import subprocess
 TOP = pathlib.Path(__file__).resolve().parents[1]
 
 
-def build(name: str, stands_on: str, copy: pathlib.Path) -> pathlib.Path:
-    """The program of that name, over the crates that it stands on, built in a copy of the repository."""
-    shutil.copytree(TOP, copy, ignore=shutil.ignore_patterns(".git", "out", "bench"))
+def build(name: str, stands_on: str, copy: pathlib.Path, top: pathlib.Path = TOP) -> pathlib.Path:
+    """The program of that name, over the crates that it stands on, built in a copy of the repository or of another checkout."""
+    shutil.copytree(top, copy, ignore=shutil.ignore_patterns(".git", "out", "bench"))
     crate = copy / "crates" / name
     source = TOP / "bench" / "programs" / name
     for file in source.rglob("*.in"):
@@ -29,10 +29,11 @@ def build(name: str, stands_on: str, copy: pathlib.Path) -> pathlib.Path:
     return program
 
 
-def usage(program: pathlib.Path, *words: object) -> tuple[float, int]:
-    """The processor time of a run in seconds, and its largest resident size in bytes."""
-    process = subprocess.Popen([program, *map(str, words)])
+def usage(program: pathlib.Path, *words: object) -> tuple[float, int, str]:
+    """The processor time of a run in seconds, its largest resident size in bytes, and what it printed."""
+    process = subprocess.Popen([program, *map(str, words)], stdout=subprocess.PIPE, text=True)
+    printed = process.stdout.read()
     _, status, spent = os.wait4(process.pid, 0)
     if status != 0:
         raise SystemExit(f"{program.name} {words} failed: {status}")
-    return spent.ru_utime + spent.ru_stime, spent.ru_maxrss * 1024
+    return spent.ru_utime + spent.ru_stime, spent.ru_maxrss * 1024, printed
