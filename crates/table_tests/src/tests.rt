@@ -1,3 +1,4 @@
+mod cells;
 mod files;
 mod lists;
 mod report;

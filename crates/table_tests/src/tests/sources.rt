@@ -1,132 +1,118 @@
 //! Sources and sinks in memory: what they give and take, and where a listed call fails.
 use csv_source::{
-    Buffer, Bytes, Failed, MemorySink, MemorySource, More, NoMemory, ReadStop, Source, read_more,
+    Buffer, Failed, MemorySink, MemorySource, More, NoMemory, ReadStop, Source, read_more,
     write_all,
 };
 use std::alloc::Global;
-use std::process::Abort;
-use std::test::Fail;
 
-/// The call that fails, whether the source opens, how reading stops, and what is given.
-struct Reading(u64, bool, Option<ReadStop>, &'static str);
-
-// Calls of the source: 1 opens, 2 to 4 give two bytes each, 5 finds the end.
-const READINGS: [Reading; 6] = [
-    Reading(1, false, None, ""),
-    Reading(2, true, Some(ReadStop::Failed), ""),
-    Reading(3, true, Some(ReadStop::Failed), "ab"),
-    Reading(4, true, Some(ReadStop::Failed), "abcd"),
-    Reading(5, true, Some(ReadStop::Failed), "abcdef"),
-    Reading(6, true, None, "abcdef"),
-];
-
-fn check_reading(rt: &impl Abort, alloc: Global, row: &Reading) -> Result<(), NoMemory> {
+/// A source of one file, which gives a piece at a time and fails at a call.
+fn source_of(alloc: Global, piece: usize, failing: u64) -> Result<MemorySource, NoMemory> {
     let mut source = MemorySource::new(alloc);
     source.put("f.csv", b"other")?;
-    source.put("f.csv", b"abcdef")?;
-    source.piece(2);
-    source.fail_call(row.0)?;
-    assert_eq!(rt; source.open("f.csv").is_ok(), row.1, "call {} fails", row.0);
-    let mut bytes = Vec::new(alloc);
-    if row.1 {
-        let stop = read_more(&mut source, &mut bytes, 10).err();
-        assert_eq!(rt; stop, row.2, "call {} fails", row.0);
-    }
-    assert_eq!(rt; bytes.as_slice(), row.3.as_bytes(), "call {} fails", row.0);
-    Ok(())
+    source.put("f.csv", b"abcdefghij")?;
+    source.piece(piece);
+    source.fail_call(failing)?;
+    Ok(source)
 }
 
 #[test]
-fn a_source_fails_at_the_listed_call(rt: HostRuntime) -> Result<(), Fail> {
-    for row in &READINGS {
-        check_reading(&rt, rt.alloc(), row)?;
-    }
-    Ok(())
-}
-
-#[test]
-fn an_absent_name_and_a_limit(rt: HostRuntime) -> Result<(), Fail> {
-    let mut source = MemorySource::new(rt.alloc());
+fn an_absent_name_and_a_listed_call_open_nothing(rt: HostRuntime) -> Result<(), NoMemory> {
+    let mut source = source_of(rt.alloc(), 2, 2)?;
+    assert_eq!(rt; source.open("g.csv"), Err(Failed));
+    assert_eq!(rt; source.open("f.csv"), Err(Failed));
     let mut bytes = Vec::new(rt.alloc());
     assert_eq!(rt; read_more(&mut source, &mut bytes, 4), Ok(More::Ended));
-    source.put("f.csv", b"abcdef")?;
-    assert_eq!(rt; source.open("g.csv"), Err(Failed));
-    assert_eq!(rt; source.open("f.csv"), Ok(()));
-    source.piece(0);
-    assert_eq!(rt; read_more(&mut source, &mut bytes, 4), Ok(More::Reached));
-    assert_eq!(rt; bytes.as_slice(), b"abcd".as_slice());
-    let copy = Bytes::copy_of(rt.alloc(), &bytes)?;
-    assert_eq!(rt; copy.as_slice(), b"abcd".as_slice());
     Ok(())
 }
 
-// Call 1 opens, 2 and 3 give two bytes each, and there is no call 4.
-#[test]
-fn a_limit_is_read_up_to_and_no_further(rt: HostRuntime) -> Result<(), Fail> {
-    let mut source = MemorySource::new(rt.alloc());
-    source.put("f.csv", b"abcdef")?;
-    source.piece(2);
-    source.fail_call(4)?;
-    assert_eq!(rt; source.open("f.csv"), Ok(()));
-    let mut bytes = Vec::new(rt.alloc());
-    assert_eq!(rt; read_more(&mut source, &mut bytes, 4), Ok(More::Reached));
-    assert_eq!(rt; bytes.as_slice(), b"abcd".as_slice());
-    Ok(())
+/// The largest piece, the call that fails, the most bytes, how reading ends, and what is given.
+struct Reading(usize, u64, u64, Result<More, ReadStop>, &'static str);
+
+// Call 1 opens, each of the next gives a piece, and one more finds the end.
+const READINGS: [Reading; 7] = [
+    Reading(4, 2, 20, Err(ReadStop::Failed), ""),
+    Reading(4, 3, 20, Err(ReadStop::Failed), "abcd"),
+    Reading(4, 4, 20, Err(ReadStop::Failed), "abcdefgh"),
+    Reading(4, 5, 20, Err(ReadStop::Failed), "abcdefghij"),
+    Reading(4, 6, 20, Ok(More::Ended), "abcdefghij"),
+    Reading(2, 4, 4, Ok(More::Reached), "abcd"),
+    Reading(0, 6, 4, Ok(More::Reached), "abcd"),
+];
+
+/// Whether a source gives what is wanted.
+fn reads(alloc: Global, row: &Reading) -> Result<bool, NoMemory> {
+    let mut source = source_of(alloc, row.0, row.1)?;
+    let opens = source.open("f.csv").is_ok();
+    let mut bytes = Vec::new(alloc);
+    let answer = read_more(&mut source, &mut bytes, row.2);
+    Ok(opens && answer == row.3 && bytes.as_slice() == row.4.as_bytes())
 }
 
 #[test]
-fn a_buffer_drops_and_reads_on(rt: HostRuntime) -> Result<(), Fail> {
-    let mut source = MemorySource::new(rt.alloc());
-    source.put("f.csv", b"abcdefghij")?;
-    source.piece(3);
-    source.fail_call(5)?;
-    assert_eq!(rt; source.open("f.csv"), Ok(()));
+fn a_source_is_read_up_to_a_limit_or_a_listed_call(rt: HostRuntime) -> Result<(), NoMemory> {
+    for row in &READINGS {
+        assert!(rt; reads(rt.alloc(), row)?);
+    }
+    Ok(())
+}
+
+/// Whether a buffer reads on as is wanted.
+fn reads_on(
+    bytes: &mut Buffer,
+    source: &mut MemorySource,
+    most: u64,
+    answer: Result<More, ReadStop>,
+    want: &[u8],
+) -> bool {
+    bytes.read_more(source, most) == answer && bytes.as_slice() == want
+}
+
+#[test]
+fn a_buffer_drops_and_reads_on(rt: HostRuntime) -> Result<(), NoMemory> {
+    let mut source = source_of(rt.alloc(), 3, 5)?;
+    assert!(rt; source.open("f.csv").is_ok());
     let mut bytes = Buffer::new(rt.alloc());
-    assert_eq!(rt; bytes.read_more(&mut source, 5), Ok(More::Reached));
-    assert_eq!(rt; bytes.as_slice(), b"abcde".as_slice());
+    assert!(rt; reads_on(&mut bytes, &mut source, 5, Ok(More::Reached), b"abcde"));
     assert!(rt; bytes.len() >= 4);
     bytes.drop_front(4);
     assert_eq!(rt; bytes.as_slice(), b"e".as_slice());
-    assert_eq!(rt; bytes.read_more(&mut source, 20), Err(ReadStop::Failed));
-    assert_eq!(rt; bytes.as_slice(), b"efgh".as_slice());
-    assert_eq!(rt; bytes.read_more(&mut source, 20), Ok(More::Ended));
-    assert_eq!(rt; bytes.as_slice(), b"efghij".as_slice());
+    assert!(rt; reads_on(&mut bytes, &mut source, 20, Err(ReadStop::Failed), b"efgh"));
+    assert!(rt; reads_on(&mut bytes, &mut source, 20, Ok(More::Ended), b"efghij"));
     Ok(())
 }
 
-/// The call that fails, and what is taken before.
-struct Writing(u64, &'static str);
+/// The room, the call that fails, whether all is written, and what is taken.
+struct Writing(usize, u64, bool, &'static str);
 
-// Calls of the sink: each write takes three bytes, and the third finds room for one.
-const WRITINGS: [Writing; 5] = [
-    Writing(1, ""),
-    Writing(2, "opt"),
-    Writing(3, "option"),
-    Writing(4, "options"),
-    Writing(5, "options"),
+// Each write takes three bytes. In a room of seven the third finds place for one.
+const WRITINGS: [Writing; 6] = [
+    Writing(7, 1, false, ""),
+    Writing(7, 2, false, "opt"),
+    Writing(7, 3, false, "option"),
+    Writing(7, 4, false, "options"),
+    Writing(7, 5, false, "options"),
+    Writing(8, 4, true, "options|"),
 ];
 
-fn check_writing(rt: &impl Abort, alloc: Global, row: &Writing) -> Result<(), NoMemory> {
-    let mut sink = MemorySink::with_room(alloc, 7)?;
+/// A sink with so much room, which takes three bytes at a time and fails at a call.
+fn sink_of(alloc: Global, room: usize, failing: u64) -> Result<MemorySink, NoMemory> {
+    let mut sink = MemorySink::with_room(alloc, room)?;
     sink.piece(3);
-    sink.fail_call(row.0)?;
-    assert_eq!(rt;
-        write_all(&mut sink, b"options|"),
-        Err(Failed),
-        "call {} fails",
-        row.0
-    );
-    assert_eq!(rt; sink.taken(), row.1.as_bytes(), "call {} fails", row.0);
-    Ok(())
+    sink.fail_call(failing)?;
+    Ok(sink)
+}
+
+/// Whether a sink takes what is wanted.
+fn writes(alloc: Global, row: &Writing) -> Result<bool, NoMemory> {
+    let mut sink = sink_of(alloc, row.0, row.1)?;
+    let all = write_all(&mut sink, b"options|").is_ok();
+    Ok(all == row.2 && sink.taken() == row.3.as_bytes())
 }
 
 #[test]
-fn a_sink_takes_what_has_room(rt: HostRuntime) -> Result<(), Fail> {
+fn a_sink_takes_what_has_room(rt: HostRuntime) -> Result<(), NoMemory> {
     for row in &WRITINGS {
-        check_writing(&rt, rt.alloc(), row)?;
+        assert!(rt; writes(rt.alloc(), row)?);
     }
-    let mut sink = MemorySink::with_room(rt.alloc(), 8)?;
-    assert_eq!(rt; write_all(&mut sink, b"options|"), Ok(()));
-    assert_eq!(rt; sink.taken(), b"options|".as_slice());
     Ok(())
 }

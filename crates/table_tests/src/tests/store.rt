@@ -1,10 +1,11 @@
 //! Rows that go into tables and come out.
-ghost use Rattle.std.specs.Prelude.{◌≡◌, ◌∷◌, [], length, IfOk, IsTrue};
+ghost use Rattle.std.specs.Prelude.{◌≡◌, ◌∷◌, [], length, true, IfOk, IsTrue};
 ghost use Rattle.value_types.specs.declared.types.ColumnType.TheVariants as types;
 ghost use Rattle.value_types.specs.declared.cells.Cell.TheVariants as cells;
 ghost use Rattle.value_types.specs.Datum.{datum_of};
 ghost use Rattle.value_types.specs.OfType.{fits};
 
+use super::cells::{is_null, is_text, is_value};
 use column_store::{Chunk, Table};
 use csv_source::NoMemory;
 use std::alloc::Global;
@@ -13,8 +14,7 @@ use value_types::{Cell, Cells, ColumnType, Types, Value};
 
 /// A table of one column: 7, 7 and null.
 fn three_rows(alloc: Global) -> Result<Table, NoMemory>
-    ensures types { IfOk result (λ table. table.types ≡ types.Bigint ∷ []) }
-    ensures rows { IfOk result (λ table. length table.rows ≡ 3) }
+    ensures { IfOk result (λ table. table.types ≡ types.Bigint ∷ []) }
 {
     let mut types = Types::new(alloc);
     types.push(ColumnType::Bigint)?;
@@ -33,10 +33,10 @@ fn three_rows(alloc: Global) -> Result<Table, NoMemory>
 #[test]
 fn reserved_rows_are_pushed(rt: HostRuntime) -> Result<(), NoMemory> {
     let table = three_rows(rt.alloc())?;
-    assert_eq!(rt; table.rows(), 3);
-    assert_eq!(rt; table.columns(), 1);
-    assert!(rt; matches!(table.cell_at(0, 1), Cell::Value(Value::Int(7))));
-    assert!(rt; matches!(table.cell_at(0, 2), Cell::Null));
+    assert!(rt; table.rows() == 3);
+    assert!(rt; table.columns() == 1);
+    assert!(rt; is_value(table.cell_at(0, 1), Value::Int(7)));
+    assert!(rt; is_null(table.cell_at(0, 2)));
     Ok(())
 }
 
@@ -46,17 +46,15 @@ fn tables_are_appended_and_joined(rt: HostRuntime) -> Result<(), NoMemory> {
     let other = three_rows(rt.alloc())?;
     table.append(&other)?;
     table.join(other)?;
-    assert_eq!(rt; table.rows(), 9);
-    assert_eq!(rt; table.chunks().0.len(), 1);
-    assert_eq!(rt; table.chunks().1.rows(), 3);
+    assert!(rt; table.rows() == 9);
+    assert!(rt; table.chunks().0.len() == 1);
+    assert!(rt; table.chunks().1.rows() == 3);
     Ok(())
 }
 
 /// A table of one column: the cell, and null.
 fn two_rows(alloc: Global, ty: ColumnType, cell: Cell<'_>) -> Result<Table, NoMemory>
     requires { IsTrue (fits ty (datum_of cell)) }
-    ensures types { IfOk result (λ table. table.types ≡ ty ∷ []) }
-    ensures rows { IfOk result (λ table. length table.rows ≡ 2) }
 {
     let mut types = Types::new(alloc);
     types.push(ty)?;
@@ -70,16 +68,29 @@ fn two_rows(alloc: Global, ty: ColumnType, cell: Cell<'_>) -> Result<Table, NoMe
     Ok(table)
 }
 
+/// Whether a table is one of two rows.
+fn is_small(table: &Table) -> bool
+    ensures { result ≡ true → (length table.now.types ≡ 1) × (length table.now.rows ≡ 2) }
+{
+    table.columns() == 1 && table.rows() == 2
+}
+
+/// Whether a table holds the value and null.
+fn holds_value(table: &Table, value: Value) -> bool {
+    is_small(table) && is_value(table.cell_at(0, 0), value) && is_null(table.cell_at(0, 1))
+}
+
+/// Whether a table holds the text and null.
+fn holds_text(table: &Table, text: &[u8]) -> bool {
+    is_small(table) && is_text(table.cell_at(0, 0), text) && is_null(table.cell_at(0, 1))
+}
+
 /// Pushes the value, and null, and reads them back.
 fn keeps(rt: &impl Abort, alloc: Global, ty: ColumnType, value: Value) -> Result<(), NoMemory>
     requires { IsTrue (fits ty (datum_of (cells.Value value))) }
 {
     let table = two_rows(alloc, ty, Cell::Value(value))?;
-    match table.cell_at(0, 0) {
-        Cell::Value(kept) => assert_eq!(rt; kept, value),
-        _ => assert!(rt; false),
-    }
-    assert!(rt; matches!(table.cell_at(0, 1), Cell::Null));
+    assert!(rt; holds_value(&table, value));
     Ok(())
 }
 
@@ -97,25 +108,31 @@ fn values_of_each_type_are_kept(rt: HostRuntime) -> Result<(), NoMemory> {
 #[test]
 fn an_empty_text_is_not_null(rt: HostRuntime) -> Result<(), NoMemory> {
     let table = two_rows(rt.alloc(), ColumnType::Varchar, Cell::Text(b""))?;
-    assert!(rt; matches!(table.cell_at(0, 0), Cell::Text(b"")));
-    assert!(rt; matches!(table.cell_at(0, 1), Cell::Null));
+    assert!(rt; holds_text(&table, b""));
     Ok(())
 }
 
-#[test]
-fn an_unfinished_row_is_taken_back(rt: HostRuntime) -> Result<(), NoMemory> {
-    let mut types = Types::new(rt.alloc());
+/// A table of a text and null, whose first row was begun with another text and taken back.
+fn begun_twice(alloc: Global) -> Result<Table, NoMemory> {
+    let mut types = Types::new(alloc);
     types.push(ColumnType::Varchar)?;
     types.push(ColumnType::Bigint)?;
-    let mut chunk = Chunk::new(rt.alloc(), &types)?;
+    let mut chunk = Chunk::new(alloc, &types)?;
     chunk.push_cell(Cell::Text(b"lost"))?;
     chunk.drop_unfinished_row();
     chunk.push_cell(Cell::Text(b"kept"))?;
     chunk.push_cell(Cell::Null)?;
     chunk.finish_row()?;
-    assert_eq!(rt; chunk.rows(), 1);
-    assert!(rt; matches!(chunk.cell_at(0, 0), Cell::Text(b"kept")));
-    assert_eq!(rt; Table::from_chunk(rt.alloc(), chunk).rows(), 1);
+    Ok(Table::from_chunk(alloc, chunk))
+}
+
+#[test]
+fn an_unfinished_row_is_taken_back(rt: HostRuntime) -> Result<(), NoMemory> {
+    let table = begun_twice(rt.alloc())?;
+    assert!(rt; table.rows() == 1);
+    assert!(rt; table.columns() == 2);
+    assert!(rt; is_text(table.cell_at(0, 0), b"kept"));
+    assert!(rt; is_null(table.cell_at(1, 0)));
     Ok(())
 }
 
@@ -146,7 +163,7 @@ const SPELLED: [Spelled; 9] = [
 fn texts_are_cast_by_their_columns(rt: HostRuntime) -> Result<(), NoMemory> {
     for row in &SPELLED {
         let can_be = spells(rt.alloc(), row.0, row.1.as_bytes())?;
-        assert_eq!(rt; can_be, row.2, "{}", row.1);
+        assert!(rt; can_be == row.2, "{}", row.1);
     }
     Ok(())
 }
