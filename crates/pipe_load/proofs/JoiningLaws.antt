@@ -30,7 +30,7 @@ module _ (context : Context) (text : List ℕ) (base size j : ℕ) (inside : j *
   d = context.dialect
 
   state_is : old.joined.end ≡ true_opening d text size j
-  state_is = steps.state_is context text base size j inside bytes window_base span part_is width_is old.joined h.joined
+  state_is = steps.state_is context text base size j inside old.joined h.joined
 
   again_is : is_again old (opening_of d bytes span) ≡ is_wrong d text size j
   again_is = ap (λ n. not (n % group_len == 0) && not (same_state (opening_of d bytes span) old.joined.end)) h.ranges ∙ by_test (j % group_len == 0) refl
@@ -42,7 +42,7 @@ module _ (context : Context) (text : List ℕ) (base size j : ℕ) (inside : j *
 
   pub next_range : IsJoinedTo context text base size (j + 1) new
   next_range = record {
-    joined = steps.next_range context text base size j inside bytes window_base span part_is width_is old.joined h.joined (is_again old (opening_of d bytes span)) again_is new.joined adds.joins;
+    joined = steps.next_range context text base size j inside old.joined h.joined bytes window_base span (part_is old.joined.end) width_is (is_again old (opening_of d bytes span)) again_is new.joined adds.joins;
     ranges = adds.ranges ∙ ap (λ n. n + 1) h.ranges;
     bytes = adds.more ∙ (λ i. h.bytes i + width_is i) ∙ lengths;
   }

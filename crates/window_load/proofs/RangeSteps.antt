@@ -112,19 +112,20 @@ module _ (context : Context) (text : List ℕ) (start size : ℕ) where
         ∙ sym (part_of-join (judge_in context) raised (rows_are_judged_alike d context.schema context.scan_id context.file_id) d text start 0 (ranges_end text size k) (ranges_end text size (k + 1)) RowStart
         (omega arith) (omega (arith, next_end)) (omega arith))
 
-    module _ (bytes : List ℕ) (window_base : ℕ) (span : Span)
-        (part_is : (s : State) → span_part context bytes window_base span s ≡ part_of (judge_in context) d text start (ranges_end text size k) (ranges_end text size (k + 1)) s)
-        (width_is : span.to - span.from ≡ width k) (old : Joined) (h : IsJoinedTo context text start size k old) where
+    module _ (old : Joined) (h : IsJoinedTo context text start size k old) where
       pub state_is : old.end ≡ true_opening d text size k
       state_is = h.part.end ∙ ap (λ n. state_after d RowStart (take n text)) (let e : ranges_end text size k - 0 ≡ k * size = omega (arith, inside) in e)
 
-      pub next_range : (again : Bool) → again ≡ is_wrong d text size k → (new : Joined) → AddsRange context bytes window_base span again old new → IsJoinedTo context text start size (k + 1) new
-      next_range again again_is new adds =
+      pub next_range : (bytes : List ℕ) (window_base : ℕ) (span : Span) →
+          span_part context bytes window_base span old.end ≡ part_of (judge_in context) d text start (ranges_end text size k) (ranges_end text size (k + 1)) old.end →
+          span.to - span.from ≡ width k →
+          (again : Bool) → again ≡ is_wrong d text size k → (new : Joined) → AddsRange context bytes window_base span again old new → IsJoinedTo context text start size (k + 1) new
+      next_range bytes window_base span part_is width_is again again_is new adds =
           let q : Part (List Datum) Reject = span_part context bytes window_base span old.end in
           let scan : Scanned = scanned context bytes window_base span old.end in
           let range : IsOfRange scan again (span.to - span.from) adds.next = adds.of in
           let is : IsAppended adds.next old new = adds.adds in
-          let next : join raised (front k) q ≡ front (k + 1) = ap (join raised (front k)) (part_is old.end) ∙ front-more old.end h.part.end in
+          let next : join raised (front k) q ≡ front (k + 1) = ap (join raised (front k)) part_is ∙ front-more old.end h.part.end in
           let one : IsJoinedPart context q adds.next = range_is_part context span.number old.end q scan again (span.to - span.from) adds.next refl range in
           let count_one : adds.next.rescans ≡ cond {A = ℕ} (is_wrong d text size k) 1 0 = range.rescans ∙ ap (λ (b : Bool). cond {A = ℕ} b 1 0) again_is in
           let bytes_one : adds.next.rescanned ≡ cond {A = ℕ} (is_wrong d text size k) (width k) 0 = range.rescanned ∙ (λ i. cond {A = ℕ} (again_is i) (width_is i) 0) in

@@ -1,5 +1,5 @@
 -- A range that is read in a window is read as it is in all data.
-use Rattle.std.proofs.Common.{◌≡◌, ◌⊎◌, ℕ, ◌+◌, ◌-◌, ◌*◌, ◌<◌, ◌≤◌, min, true, List, ◌++◌, length, drop, sym, ◌∙◌, ap, arith, inl, inr, length-take, length-drop}
+use Rattle.std.proofs.Common.{◌≡◌, ◌⊎◌, ℕ, ◌+◌, ◌-◌, ◌*◌, ◌<◌, ◌≤◌, min, true, List, [], ◌++◌, length, drop, refl, sym, ◌∙◌, ap, arith, inl, inr, append_assoc, append-nil, length-append, length-append, length-take, length-drop}
 use Rattle.std.specs.Prelude.{slice_range}
 use Rattle.std.proofs.lemmas.Bool.Decides.{leb_tells}
 use Rattle.std.proofs.Math.Nat.{mul-le-mul_right}
@@ -17,9 +17,10 @@ use Rattle.range_scan.proofs.JudgeLaws.{first_bytes_decide}
 use Rattle.range_scan.proofs.RangeLaws.{count_covers}
 use Rattle.range_scan.proofs.WindowLaws.{window_suffices}
 use Rattle.load_crew.proofs.WindowLaws.{slice-in, before-in}
-use Rattle.window_load.specs.Ranges.{guess_of, span_in, range_reach, ranges_end}
+use Rattle.window_load.specs.Ranges.{begins_behind, guess_of, span_in, range_reach, ranges_end}
 use Rattle.window_load.specs.Reading.{MayGoOn}
 use Rattle.window_load.specs.Window.{WindowView}
+use Rattle.window_load.proofs.RowEnds.{decided}
 use Rattle.window_load.proofs.WindowSteps.{Stands, place-more, is_over, begins, ends, reaches}
 
 -- ranges that begin before the end are below the count, and no more of them cover all
@@ -71,18 +72,42 @@ module _ (start size k at : ℕ) (text : List ℕ) (w : WindowView) (s : Stands 
       within : span.to ≤ length w.kept
       within = omega arith
 
-      pub part_is : (context : Context) → line ≡ context.schema.max_line_size → (o : State) →
+      -- what ends the rows of the range: the input's end, so many bytes as a row may have, or the start of another row
+      pub part_is : (context : Context) (o : State) → (w.ended ≡ true) ⊎ ((context.schema.max_line_size ≤ line) ⊎ (begins_behind context.dialect w.kept span o ≡ true)) →
           span_part context w.kept w.base span o ≡ part_of (judge_in context) context.dialect (text ++ more) start (ranges_end (text ++ more) size k) (ranges_end (text ++ more) size (k + 1)) o
-      part_is context lines o =
-          let far : (more ≡ _) ⊎ (span.to + context.schema.max_line_size < length w.kept) = elim (reaches start size k at text w s some line filled there more may) [
-            | inl none ↦ inl none
-            | inr past ↦ inr (omega (arith, past, lines))
-          ] in
+      part_is context o enough =
           let first : length s.lead + at ≡ ranges_end all size k = place-more start size k at text w s more may in
+          let most : ℕ = context.schema.max_line_size in
+          let there_is : part_of (judge_in context) context.dialect (s.lead ++ w.kept ++ more) start (length s.lead + at) (length s.lead + span.to) o
+          ≡ part_of (judge_in context) context.dialect w.kept (start + length s.lead) at span.to o =
+          elim enough [
+            | inl ended ↦ far_enough context o (inl (may ended))
+            | inr rest ↦ elim rest [
+              | inl long ↦ far_enough context o (elim (reaches start size k at text w s some line filled there more may) [ inl none ↦ inl none | inr past ↦ inr (omega (arith, past, long)) ])
+              | inr behind ↦ row_begins context o behind
+            ]
+          ] in
           ap (λ b. part_of (judge_in context) context.dialect w.kept b at span.to o) s.base_is
-          ∙ sym (window_suffices (judge_in context) context.schema.max_line_size (first_bytes_decide context.dialect context.schema context.scan_id context.file_id) context.dialect
-          s.lead w.kept more start at span.to o ordered within s.before far)
+          ∙ sym there_is
           ∙ (λ i. part_of (judge_in context) context.dialect (data_is i) start (first i) (to_is i) o)
+        where
+          far_enough : (context : Context) (o : State) → (more ≡ []) ⊎ (span.to + context.schema.max_line_size < length w.kept) →
+              part_of (judge_in context) context.dialect (s.lead ++ w.kept ++ more) start (length s.lead + at) (length s.lead + span.to) o
+              ≡ part_of (judge_in context) context.dialect w.kept (start + length s.lead) at span.to o
+          far_enough context o far =
+              window_suffices (judge_in context) context.schema.max_line_size (first_bytes_decide context.dialect context.schema context.scan_id context.file_id) context.dialect
+              s.lead w.kept more start at span.to o ordered within s.before far
+
+          row_begins : (context : Context) (o : State) → begins_behind context.dialect w.kept span o ≡ true →
+              part_of (judge_in context) context.dialect (s.lead ++ w.kept ++ more) start (length s.lead + at) (length s.lead + span.to) o
+              ≡ part_of (judge_in context) context.dialect w.kept (start + length s.lead) at span.to o
+          row_begins context o behind =
+              let whole : s.lead ++ w.kept ++ more ≡ s.lead ++ (w.kept ++ more) ++ [] = append_assoc s.lead w.kept more ∙ sym (append-nil (s.lead ++ (w.kept ++ more))) in
+              let longer : span.to ≤ length (w.kept ++ more) = omega (arith, within, length-append w.kept more) in
+              ap (λ bs. part_of (judge_in context) context.dialect bs start (length s.lead + at) (length s.lead + span.to) o) whole
+              ∙ window_suffices (judge_in context) context.schema.max_line_size (first_bytes_decide context.dialect context.schema context.scan_id context.file_id) context.dialect
+              s.lead (w.kept ++ more) [] start at span.to o ordered longer s.before (inl refl)
+              ∙ decided (judge_in context) context.dialect w.kept more (start + length s.lead) at span.to o ordered within behind
 
       pub width_is : span.to - span.from ≡ length (range_bytes (text ++ more) size k)
       width_is = omega (arith, from_is, to_is, inside, length-take (min ((k + 1) * size) (length all) - k * size) (drop (k * size) all), length-drop (k * size) all)

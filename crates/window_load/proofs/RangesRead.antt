@@ -1,7 +1,8 @@
 -- How far the ranges of the data are read in windows, turn by turn.
-use Rattle.std.proofs.Common.{◌≡◌, ℕ, ◌+◌, ◌-◌, ◌%◌, ◌<◌, ◌≤◌, true, not, List, [], ◌++◌, length, Option, refl, sym, ◌∙◌, ap, subst, arith}
+use Rattle.std.proofs.Common.{Bool, inl, inr, ◌⊎◌, ◌≡◌, ℕ, ◌+◌, ◌-◌, ◌%◌, ◌<◌, ◌≤◌, true, not, List, [], ◌++◌, length, Option, refl, sym, ◌∙◌, ap, subst, arith}
 use Rattle.std.specs.Prelude.{Some, option_map, slice_get, ◌==◌, cond}
 use Rattle.csv_source.specs.Moves.{MovesFront}
+use Rattle.quote_automaton.specs.declared.state.State.{State}
 use Rattle.quote_automaton.specs.declared.state.State.TheVariants.{RowStart}
 use Rattle.quote_automaton.specs.Automaton.{same_state}
 use Rattle.range_guess.specs.Cut.{group_len, range_count}
@@ -18,7 +19,7 @@ use Rattle.range_scan.specs.Part.{Part}
 use Rattle.value_types.specs.Datum.{Datum}
 use Rattle.window_load.specs.declared.course.Course.{Course}
 use Rattle.window_load.specs.declared.ranges_read.RangesRead.TheVariants as reads
-use Rattle.window_load.specs.Ranges.{AddsRange, IsJoinedTo, is_again, is_wrong, span_in, range_reach, ranges_part}
+use Rattle.window_load.specs.Ranges.{begins_behind, AddsRange, IsJoinedTo, is_again, is_wrong, span_in, range_reach, ranges_part}
 use Rattle.window_load.specs.Reading.{MayGoOn, IsReadInWindows}
 use Rattle.window_load.specs.Window.{WindowView, behind_front, IsFilled}
 use Rattle.window_load.proofs.RangeSteps.{none, begun, state_is, next_range, no_faults, first_reject_is, all_ranges, whole}
@@ -57,8 +58,8 @@ module _ (context : Context) (course : Course) (some : 0 < course.range_size) (l
     is_keep = ap (λ (b : BookView). b.keep) (r.read [] (λ ended. refl)).up.part.book
 
     -- all ranges are read
-    pub read_all : IsFilled (at + range_reach course.range_size context.schema.max_line_size) w → at ≡ length w.kept → IsReadInWindows context course left_before left_after old w (reads.All joined)
-    read_all filled over = (
+    pub read_all : (line : ℕ) → IsFilled (at + range_reach course.range_size line) w → at ≡ length w.kept → IsReadInWindows context course left_before left_after old w (reads.All joined)
+    read_all line filled over = (
       r.came,
       r.taken,
       r.reached,
@@ -67,12 +68,14 @@ module _ (context : Context) (course : Course) (some : 0 < course.range_size) (l
           let text : List ℕ = (old.kept ++ r.came) ++ more in
           let h : AreRangesRead context course k joined text = r.read more may in
           let last : k ≡ range_count (length text) course.range_size =
-          all_ranges_read course.start course.range_size k at (old.kept ++ r.came) w r.stands some context.schema.max_line_size filled.0 over more may h.few in
+          all_ranges_read course.start course.range_size k at (old.kept ++ r.came) w r.stands some line filled.0 over more may h.few in
           whole context text course some joined (subst (λ n. IsJoinedTo context text course.start course.range_size n joined) last h.up)
           (λ stops. sym (ap (λ (p : Part (List Datum) Reject). p.faults) (ap (ranges_part context text course.start course.range_size) last ∙ all_ranges context text course.start course.range_size some)) ∙ h.good stops),
     )
 
-    module _ (filled : IsFilled (at + range_reach course.range_size context.schema.max_line_size) w) (there : at < length w.kept) (new : Joined)
+    module _ (line : ℕ) (filled : IsFilled (at + range_reach course.range_size line) w) (there : at < length w.kept)
+        (enough : (w.ended ≡ true) ⊎ ((context.schema.max_line_size ≤ line) ⊎ (begins_behind context.dialect w.kept (span_in at (length w.kept) course.range_size k) joined.end ≡ true)))
+        (new : Joined)
         (adds : AddsRange context w.kept w.base (span_in at (length w.kept) course.range_size k)
         (is_again context.dialect w.kept (span_in at (length w.kept) course.range_size k) joined.end) joined new) where
       abbrev text : List ℕ
@@ -84,17 +87,16 @@ module _ (context : Context) (course : Course) (some : 0 < course.range_size) (l
       -- the next range is joined
       up_next : (more : List ℕ) → MayGoOn w more → IsJoinedTo context (text ++ more) course.start course.range_size (k + 1) new
       up_next more may =
-          let line : ℕ = context.schema.max_line_size in
           let h : IsJoinedTo context (text ++ more) course.start course.range_size k joined = (r.read more may).up in
           let within = inside course.start course.range_size k at text w r.stands some line filled.0 there more may in
-          let part = part_is course.start course.range_size k at text w r.stands some line filled.0 there more may context refl in
+          let part = part_is course.start course.range_size k at text w r.stands some line filled.0 there more may context joined.end enough in
           let width = width_is course.start course.range_size k at text w r.stands some line filled.0 there more may in
           let state : joined.end ≡ true_opening context.dialect (text ++ more) course.range_size k =
-          state_is context (text ++ more) course.start course.range_size k within w.kept w.base span part width joined h in
+          state_is context (text ++ more) course.start course.range_size k within joined h in
           let guessed = guess_is course.start course.range_size k at text w r.stands some line filled.0 there more may context in
           let wrong : is_again context.dialect w.kept span joined.end ≡ is_wrong context.dialect (text ++ more) course.range_size k =
           λ i. not (same_state (cond (k % group_len == 0) (state i) (guessed i)) (state i)) in
-          next_range context (text ++ more) course.start course.range_size k within w.kept w.base span part width joined h
+          next_range context (text ++ more) course.start course.range_size k within joined h w.kept w.base span part width
           (is_again context.dialect w.kept span joined.end) wrong new adds
 
       -- the reading goes on behind it
@@ -102,10 +104,10 @@ module _ (context : Context) (course : Course) (some : 0 < course.range_size) (l
           IsUpToRange context course left_before left_after old (behind_front ((span_in at (length w.kept) course.range_size k).to - 1) w) (k + 1) 1 new
       read_next good =
           so_far.read_step (AreRangesRead context course k joined) course.start course.range_size left_before left_after old w k at r
-          (AreRangesRead context course (k + 1) new) some context.schema.max_line_size filled.0 there
+          (AreRangesRead context course (k + 1) new) some line filled.0 there
           (λ more may h. record {
             up = up_next more may;
-            few = is_one course.start course.range_size k at text w r.stands some context.schema.max_line_size filled.0 there more may;
+            few = is_one course.start course.range_size k at text w r.stands some line filled.0 there more may;
             good = λ stops. no_faults context (text ++ more) course.start course.range_size (k + 1) new (up_next more may) (good stops).0 (good stops).1;
           })
 
@@ -127,13 +129,19 @@ module _ (context : Context) (course : Course) (some : 0 < course.range_size) (l
         λ more may. (stops, first_reject_is context (text ++ more) course.start course.range_size (k + 1) new (up_next more may) keeps some_reject reject e),
       )
 
--- a range that was read in the bytes of a window
-pub in_window : (context : Context) (bytes kept : List ℕ) (base place : ℕ) (span : Span) (at len size k : ℕ) (old new : Joined) →
-    bytes ≡ kept → base ≡ place → span ≡ span_in at len size k → len ≡ length kept →
-    AddsRange context bytes base span (is_again context.dialect bytes span old.end) old new →
+-- a range that was read in a window of so many bytes
+pub in_window : (context : Context) (kept : List ℕ) (place : ℕ) (read : Span) (at len size k : ℕ) (old new : Joined) → read ≡ span_in at len size k → len ≡ length kept →
+    AddsRange context kept place read (is_again context.dialect kept read old.end) old new →
     AddsRange context kept place (span_in at (length kept) size k) (is_again context.dialect kept (span_in at (length kept) size k) old.end) old new
-in_window context bytes kept base place span at len size k old new is_bytes is_base is_span is_len adds =
+in_window context kept place read at len size k old new is_span is_len adds =
     subst (λ n. AddsRange context kept place (span_in at n size k) (is_again context.dialect kept (span_in at n size k) old.end) old new) is_len
-    (subst (λ (s : Span). AddsRange context kept place s (is_again context.dialect kept s old.end) old new) is_span
-    (subst (λ b. AddsRange context kept b span (is_again context.dialect kept span old.end) old new) is_base
-    (subst (λ bs. AddsRange context bs base span (is_again context.dialect bs span old.end) old new) is_bytes adds)))
+    (subst (λ (s : Span). AddsRange context kept place s (is_again context.dialect kept s old.end) old new) is_span adds)
+
+-- why a window is enough for it
+pub enough_in : (context : Context) (w : WindowView) (read : Span) (at len size k : ℕ) (state : State) (line : ℕ) (far sure : Bool) → read ≡ span_in at len size k → len ≡ length w.kept →
+    (far ≡ true → context.schema.max_line_size ≤ line) → (sure ≡ true → (far ≡ true) ⊎ (w.ended ≡ true)) → (sure ≡ true) ⊎ (begins_behind context.dialect w.kept read state ≡ true) →
+    (w.ended ≡ true) ⊎ ((context.schema.max_line_size ≤ line) ⊎ (begins_behind context.dialect w.kept (span_in at (length w.kept) size k) state ≡ true))
+enough_in context w read at len size k state line far sure is_span is_len long sure_if decided = elim decided [
+  | inl told ↦ elim (sure_if told) [ inl is_far ↦ inr (inl (long is_far)) | inr ended ↦ inl ended ]
+  | inr behind ↦ inr (inr (sym (ap (λ (s : Span). begins_behind context.dialect w.kept s state) (is_span ∙ ap (λ n. span_in at n size k) is_len)) ∙ behind))
+]

@@ -1,11 +1,12 @@
 -- The ranges of data, read one after another, each in the state in which those before it end (Ge et al. 2019).
-use Rattle.std.specs.Prelude.{◌≡◌, ℕ, ◌+◌, ◌-◌, ◌*◌, ◌%◌, min, Bool, not, ◌==◌, if◌then◌else◌, filter, sum_by, List, length, slice_range}
+use Rattle.std.specs.Prelude.{◌≡◌, ℕ, ◌+◌, ◌-◌, ◌*◌, ◌%◌, min, Bool, not, ◌==◌, if◌then◌else◌, filter, sum_by, List, length, slice_range, is_some}
 use Rattle.std.specs.List.{range_with_len}
 use Rattle.byte_classes.specs.Dialect.{Marks}
 use Rattle.byte_classes.specs.Places.{byte_before}
 use Rattle.quote_automaton.specs.declared.state.State.{State}
 use Rattle.quote_automaton.specs.declared.state.State.TheVariants.{RowStart}
-use Rattle.quote_automaton.specs.Automaton.{same_state}
+use Rattle.quote_automaton.specs.Automaton.{same_state, state_after}
+use Rattle.quote_automaton.specs.Rows.{first_row_start}
 use Rattle.value_types.specs.Datum.{Datum}
 use Rattle.range_guess.specs.Cut.{group_len}
 use Rattle.range_guess.specs.Guess.{guess}
@@ -32,6 +33,10 @@ opening_in d bytes span end = if span.number % group_len == 0 then end else gues
 abbrev pub is_again : Marks → List ℕ → Span → State → Bool
 is_again d bytes span end = not (same_state (opening_in d bytes span end) end)
 
+-- whether a row begins behind a range that is read from a state: then each row of the range ends in these bytes, whatever comes later
+abbrev pub begins_behind : Marks → List ℕ → Span → State → Bool
+begins_behind d bytes span s = is_some (first_row_start d (state_after d s (slice_range bytes span.from span.to)) bytes span.to (length bytes))
+
 -- a range is joined as it is read from the end of those before it, and counted where it was read twice
 pub record AddsRange (context : Context) (bytes : List ℕ) (base : ℕ) (span : Span) (again : Bool) (old new : Joined) : Type 0 where
   pub next : Joined
@@ -42,7 +47,7 @@ pub record AddsRange (context : Context) (bytes : List ℕ) (base : ℕ) (span :
 abbrev pub span_in : ℕ → ℕ → ℕ → ℕ → Span
 span_in at window_length range_size k = record { number = k; from = at; to = min (at + range_size) window_length }
 
--- how many bytes a window holds from a range's beginning on, unless the data end: the range, and one byte more than a row may have
+-- how many bytes a window holds from a range's beginning on, unless the data end: the range, and one byte more than a line of so many
 abbrev pub range_reach : ℕ → ℕ → ℕ
 range_reach range_size line_size = range_size + (line_size + 1)
 

@@ -12,7 +12,7 @@ ghost use Rattle.window_load.specs.declared.stop.LoadStop.TheVariants as stops;
 use crate::course::Course;
 use crate::ranges_read::RangesRead;
 use crate::reject::first_reject;
-use crate::scanner::Scanner;
+use crate::scanner::{CALLER, Scanner};
 use crate::stop::LoadStop;
 use crate::window::InputWindow;
 use csv_source::{Gate, Source};
@@ -33,7 +33,7 @@ fn span_in(at: usize, window_length: usize, range_size: u64, number: u64) -> Spa
     }
 }
 
-/// How many bytes of the data a window holds from a range's beginning on.
+/// How many bytes of the data a window holds from a range's beginning on, for lines of so many bytes.
 fn range_reach(range_size: u64, line_size: u64) -> usize
     requires fits { range_size ≤ RANGE_SIZE.most }
     requires line { line_size ≤ MAX_LINE_SIZE.most }
@@ -42,9 +42,13 @@ fn range_reach(range_size: u64, line_size: u64) -> usize
     (range_size + (line_size + 1)) as usize
 }
 
+/// The longest line whose end is looked for behind a range at once.
+const NEAR: u64 = 65_536;
+
 /// Reads the ranges of the data, which begin with the window, one after another on the caller's thread. Of each range the
-/// last byte is held for the next one. So little is held that it stays in the processor's caches between its reading and
-/// its scan, where a group of ranges would take fresh memory.
+/// last byte is held for the next one. Behind it as much is held as most rows need, and as a row may have where that isn't
+/// enough: so little that it stays in the processor's caches between its reading and its scan, where a group of ranges would
+/// take fresh memory.
 pub fn read_ranges<S: Source, G: Gate>(
     scanner: &Scanner<'_, G>,
     course: Course,
@@ -67,17 +71,26 @@ pub fn read_ranges<S: Source, G: Gate>(
     ensures failed { result ≡ Err stops.Failed → Rose (S.faults source.old) (S.faults source.new) }
 {
     let (alloc, context) = (scanner.alloc, scanner.context);
+    let most = context.schema.max_line_size;
     let mut joined = Joined::new(alloc, context, State::RowStart)?;
-    let ahead = range_reach(course.range_size, context.schema.max_line_size);
     let mut at = 0;
     let mut number = 0;
+    let mut far = false;
     loop {
-        window.fill_to(source, at + ahead)?;
+        let line = if far { most } else { most.min(NEAR) };
+        window.fill_to(source, at + range_reach(course.range_size, line))?;
         if at == window.len() {
             return Ok(RangesRead::All(joined));
         }
+        if !far {
+            scanner.gate.claimed(CALLER, number);
+        }
         let span = span_in(at, window.len(), course.range_size, number);
-        scanner.add_range(&mut joined, window.bytes(), window.base(), &span)?;
+        let sure = far || window.ended();
+        if !scanner.add_range(&mut joined, window, &span, sure)? {
+            far = true;
+            continue;
+        }
         if course.stop && joined.book.len() > 0 {
             let reject = first_reject(alloc, &joined.book, 0)?;
             return Ok(RangesRead::Stopped(reject));
@@ -85,5 +98,6 @@ pub fn read_ranges<S: Source, G: Gate>(
         window.drop_front(span.to - 1);
         at = 1;
         number += 1;
+        far = false;
     }
 }

@@ -1,19 +1,21 @@
 //! The scans of ranges by one thread, each joined to those before it.
-ghost use Rattle.std.specs.Prelude.{◌≡◌, ◌+◌, ◌<◌, ◌^◌, length, not, IfOk, OnOk};
+ghost use Rattle.std.specs.Prelude.{◌≡◌, ◌+◌, ◌<◌, ◌^◌, ◌⊎◌, true, false, length, not, is_some, IfOk};
+ghost use Rattle.quote_automaton.specs.Rows.{first_row_start};
 ghost use Rattle.quote_automaton.specs.Automaton.{same_state};
 ghost use Rattle.range_scan.specs.Scanned.{scanned, IsSpanOf, HasColumns};
 ghost use Rattle.window_load.specs.Ranges.{guess_of};
 
 use crate::groups::GROUP_LEN;
+use crate::window::InputWindow;
 use byte_classes::{Dialect, byte_before};
 use csv_source::{Gate, NoMemory};
-use quote_automaton::State;
+use quote_automaton::{State, first_row_start};
 use range_guess::guess;
 use range_scan::{Context, Joined, Part, Span, scan};
 use std::alloc::Global;
 
 /// The caller's number where it scans.
-const CALLER: u32 = 0;
+pub const CALLER: u32 = 0;
 
 /// The guess of the state in which a range opens, by its own bytes and the byte before it.
 pub fn guess_of(dialect: &Dialect, bytes: &[u8], span: &Span) -> State
@@ -34,7 +36,7 @@ fn differs(opened: State, state: State) -> bool
     opened != state
 }
 
-/// Scans ranges one after another, and tells the gate of each claim and each scan.
+/// Scans ranges one after another, and tells the gate of each scan.
 #[derive(Drop)]
 pub struct Scanner<'a, G: Gate> {
     pub alloc: Global,
@@ -44,7 +46,7 @@ pub struct Scanner<'a, G: Gate> {
 }
 
 impl<'a, G: Gate> Scanner<'a, G> {
-    ghost use Rattle.window_load.specs.Ranges.{opening_in, is_again, AddsRange};
+    ghost use Rattle.window_load.specs.Ranges.{opening_in, begins_behind, is_again, AddsRange};
 
     /// The state in which a range is scanned first: where the one before it ends for the first of a group, and else its guess.
     fn opening(&self, bytes: &[u8], span: &Span, end: State) -> State
@@ -87,28 +89,44 @@ impl<'a, G: Gate> Scanner<'a, G> {
         self.scan(bytes, base, span, state)
     }
 
-    /// Scans the next range, first in its guess, and appends what it comes to in the state in which those before it end.
+    /// Whether a row begins in the window behind a range that ends in this state: then the rows of the range end before it.
+    fn has_row_behind(&self, window: &InputWindow, span: &Span, end: State) -> bool
+        requires { IsSpanOf span.now window.now.kept }
+        ensures { result ≡ is_some (first_row_start self.now.context.now.dialect end window.now.kept span.now.to (length window.now.kept)) }
+    {
+        let bytes = window.bytes();
+        first_row_start(&self.context.dialect, end, bytes, span.to, bytes.len()).is_some()
+    }
+
+    /// Scans the next range of a window, first in its guess, and appends what it comes to in the state in which those before
+    /// it end. Where it isn't sure that its rows end in the window it may append nothing, and answers false.
     pub fn add_range(
         &self,
         joined: &mut Joined,
-        bytes: &[u8],
-        base: u64,
+        window: &InputWindow,
         span: &Span,
-    ) -> Result<(), NoMemory>
-        requires within { IsSpanOf span.now bytes.now }
-        requires room { base + length bytes.now < 2 ^ 62 }
+        sure: bool,
+    ) -> Result<bool, NoMemory>
+        requires within { IsSpanOf span.now window.now.kept }
+        requires room { window.now.base + length window.now.kept < 2 ^ 62 }
         requires types { joined.old.table.types ≡ self.now.context.now.schema.types }
         requires keep { joined.old.book.keep ≡ self.now.context.now.keep }
-        ensures { OnOk result (AddsRange self.now.context.now bytes.now base span.now
-            (is_again self.now.context.now.dialect bytes.now span.now joined.old.end) joined.old joined.new) }
+        ensures ok { IfOk result (λ added. added ≡ true → AddsRange self.now.context.now window.now.kept window.now.base span.now
+            (is_again self.now.context.now.dialect window.now.kept span.now joined.old.end) joined.old joined.new) }
+        ensures value { IfOk result (λ added. added ≡ true → (sure ≡ true)
+            ⊎ (begins_behind self.now.context.now.dialect window.now.kept span.now joined.old.end ≡ true)) }
+        ensures same { IfOk result (λ added. added ≡ false → (sure ≡ false) × (joined.new ≡ joined.old)) }
     {
-        self.gate.claimed(CALLER, span.number);
+        let (bytes, base) = (window.bytes(), window.base());
         let state = joined.end;
         let opened = self.opening(bytes, span, state);
         let part = self.part_in(bytes, base, span, opened, state)?;
+        if !sure && !self.has_row_behind(window, span, part.end()) {
+            return Ok(false);
+        }
         let again = differs(opened, state);
         let next = Joined::of(part, again, (span.to - span.from) as u64);
         joined.append(next)?;
-        Ok(())
+        Ok(true)
     }
 }

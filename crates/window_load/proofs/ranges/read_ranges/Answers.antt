@@ -1,14 +1,15 @@
-use Rattle.std.proofs.Common.{◌≡◌, ◌+◌, ◌<◌, ◌≤◌, true, sym, subst, ap, ◌∙◌, length, refl, arith}
+use Rattle.std.proofs.Common.{inl, inr, ◌⊎◌, ◌≡◌, ◌+◌, ◌<◌, ◌≤◌, true, sym, subst, ap, ◌∙◌, length, refl, arith}
+use Rattle.range_scan.specs.declared.joined.Joined.{Joined}
 use Rattle.window_load.specs.Ranges.{range_reach}
 use Rattle.window_load.specs.Window.{WindowView, IsFilled}
-use Rattle.window_load.proofs.RangesRead.{read_none, read_more, read_all, read_in_next, read_stopped, in_window, are_types, is_keep}
+use Rattle.window_load.proofs.RangesRead.{IsUpToRange, read_none, read_more, read_all, read_in_next, read_stopped, in_window, enough_in, are_types, is_keep}
 use Rattle.window_load.proofs.WindowSteps.{at_within, at_below}
 use Rattle.reject_book.specs.declared.book.Keep.TheVariants.{First}
-use Rattle.window_load.proofs.ranges.read_ranges.Goals.{else-course-via-then-course+else-len-gt0, else-course-via-else-course}
+use Rattle.window_load.proofs.ranges.read_ranges.Goals.{else-course-via-then-course+else-len-gt0, else-course-via-else-course, then-far, else-far, then-far-2, else-far-2}
 use Rattle.window_load.proofs.ranges.read_ranges.Goals as goal
 
-pub loop-joined-init : goal.loop-joined-init
-loop-joined-init g c = (
+pub loop-far-init : goal.loop-far-init
+loop-far-init g c = (
   read_none c.args.scanner.now.context.now c.args.course c.requires.some (g.S.Source.left c.args.source.now) c.args.window.now c.in_ok-joined.joined c.requires.begins c.in_ok-joined.ensures,
   omega arith,
   c.requires.at_end,
@@ -18,88 +19,111 @@ loop-joined-init g c = (
 
 pub returns-in_err-fill_to-clause-moved : goal.returns-in_err-fill_to-clause-moved
 returns-in_err-fill_to-clause-moved g c =
-    let so_far = read_more c.args.scanner.now.context.now c.args.course c.requires.some (g.S.Source.left c.args.source.now) c.args.window.now (g.S.Source.left c.loop-joined.source) c.loop-joined.window
-    c.loop-joined.number c.loop-joined.at c.loop-joined.joined c.loop-joined.invariant.0 (g.S.Source.left c.fill_to.new.source) c.fill_to.new.self
+    let so_far = read_more c.args.scanner.now.context.now c.args.course c.requires.some (g.S.Source.left c.args.source.now) c.args.window.now (g.S.Source.left c.loop-far.source) c.loop-far.window
+    c.loop-far.number c.loop-far.at c.loop-far.joined c.loop-far.invariant.0 (g.S.Source.left c.fill_to.new.source) c.fill_to.new.self
     c.fill_to.ensures.moved c.fill_to.ensures.same.0 c.fill_to.ensures.same.1 c.fill_to.ensures.stays in
     (so_far.came, so_far.taken, so_far.reached, so_far.most)
 
 pub returns-then-at-len-clause-moved : goal.returns-then-at-len-clause-moved
 returns-then-at-len-clause-moved g c =
-    let so_far = read_more c.args.scanner.now.context.now c.args.course c.requires.some (g.S.Source.left c.args.source.now) c.args.window.now (g.S.Source.left c.loop-joined.source) c.loop-joined.window
-    c.loop-joined.number c.loop-joined.at c.loop-joined.joined c.loop-joined.invariant.0 (g.S.Source.left c.fill_to.new.source) c.fill_to.new.self
+    let so_far = read_more c.args.scanner.now.context.now c.args.course c.requires.some (g.S.Source.left c.args.source.now) c.args.window.now (g.S.Source.left c.loop-far.source) c.loop-far.window
+    c.loop-far.number c.loop-far.at c.loop-far.joined c.loop-far.invariant.0 (g.S.Source.left c.fill_to.new.source) c.fill_to.new.self
     c.fill_to.ensures.moved c.fill_to.ensures.same.0 c.fill_to.ensures.same.1 c.fill_to.ensures.stays in
     (so_far.came, so_far.taken, so_far.reached, so_far.most)
 
 pub returns-in_err-add_range-clause-moved : goal.returns-in_err-add_range-clause-moved
 returns-in_err-add_range-clause-moved g c =
-    let so_far = read_more c.args.scanner.now.context.now c.args.course c.requires.some (g.S.Source.left c.args.source.now) c.args.window.now (g.S.Source.left c.loop-joined.source) c.loop-joined.window
-    c.loop-joined.number c.loop-joined.at c.loop-joined.joined c.loop-joined.invariant.0 (g.S.Source.left c.fill_to.new.source) c.fill_to.new.self
+    let so_far = read_more c.args.scanner.now.context.now c.args.course c.requires.some (g.S.Source.left c.args.source.now) c.args.window.now (g.S.Source.left c.loop-far.source) c.loop-far.window
+    c.loop-far.number c.loop-far.at c.loop-far.joined c.loop-far.invariant.0 (g.S.Source.left c.fill_to.new.source) c.fill_to.new.self
     c.fill_to.ensures.moved c.fill_to.ensures.same.0 c.fill_to.ensures.same.1 c.fill_to.ensures.stays in
     (so_far.came, so_far.taken, so_far.reached, so_far.most)
 
 pub returns-in_err-reject-clause-moved : goal.returns-in_err-reject-clause-moved
 returns-in_err-reject-clause-moved g c =
-    let so_far = read_more c.args.scanner.now.context.now c.args.course c.requires.some (g.S.Source.left c.args.source.now) c.args.window.now (g.S.Source.left c.loop-joined.source) c.loop-joined.window
-    c.loop-joined.number c.loop-joined.at c.loop-joined.joined c.loop-joined.invariant.0 (g.S.Source.left c.fill_to.new.source) c.fill_to.new.self
+    let so_far = read_more c.args.scanner.now.context.now c.args.course c.requires.some (g.S.Source.left c.args.source.now) c.args.window.now (g.S.Source.left c.loop-far.source) c.loop-far.window
+    c.loop-far.number c.loop-far.at c.loop-far.joined c.loop-far.invariant.0 (g.S.Source.left c.fill_to.new.source) c.fill_to.new.self
     c.fill_to.ensures.moved c.fill_to.ensures.same.0 c.fill_to.ensures.same.1 c.fill_to.ensures.stays in
     (so_far.came, so_far.taken, so_far.reached, so_far.most)
 
 pub returns-then-len-gt0-clause-moved : goal.returns-then-len-gt0-clause-moved
 returns-then-len-gt0-clause-moved g c =
-    let so_far = read_more c.args.scanner.now.context.now c.args.course c.requires.some (g.S.Source.left c.args.source.now) c.args.window.now (g.S.Source.left c.loop-joined.source) c.loop-joined.window
-    c.loop-joined.number c.loop-joined.at c.loop-joined.joined c.loop-joined.invariant.0 (g.S.Source.left c.fill_to.new.source) c.fill_to.new.self
+    let so_far = read_more c.args.scanner.now.context.now c.args.course c.requires.some (g.S.Source.left c.args.source.now) c.args.window.now (g.S.Source.left c.loop-far.source) c.loop-far.window
+    c.loop-far.number c.loop-far.at c.loop-far.joined c.loop-far.invariant.0 (g.S.Source.left c.fill_to.new.source) c.fill_to.new.self
     c.fill_to.ensures.moved c.fill_to.ensures.same.0 c.fill_to.ensures.same.1 c.fill_to.ensures.stays in
     (so_far.came, so_far.taken, so_far.reached, so_far.most)
 
 pub add_range-requires-clause-types : goal.add_range-requires-clause-types
 add_range-requires-clause-types g c κs within =
-    let so_far = read_more c.args.scanner.now.context.now c.args.course c.requires.some (g.S.Source.left c.args.source.now) c.args.window.now (g.S.Source.left c.loop-joined.source) c.loop-joined.window
-    c.loop-joined.number c.loop-joined.at c.loop-joined.joined c.loop-joined.invariant.0 (g.S.Source.left c.fill_to.new.source) c.fill_to.new.self
+    let so_far = read_more c.args.scanner.now.context.now c.args.course c.requires.some (g.S.Source.left c.args.source.now) c.args.window.now (g.S.Source.left c.loop-far.source) c.loop-far.window
+    c.loop-far.number c.loop-far.at c.loop-far.joined c.loop-far.invariant.0 (g.S.Source.left c.fill_to.new.source) c.fill_to.new.self
     c.fill_to.ensures.moved c.fill_to.ensures.same.0 c.fill_to.ensures.same.1 c.fill_to.ensures.stays in
-    are_types c.args.scanner.now.context.now c.args.course c.requires.some (g.S.Source.left c.args.source.now) c.args.window.now (g.S.Source.left c.fill_to.new.source) c.fill_to.new.self c.loop-joined.number c.loop-joined.at c.loop-joined.joined so_far
+    are_types c.args.scanner.now.context.now c.args.course c.requires.some (g.S.Source.left c.args.source.now) c.args.window.now (g.S.Source.left c.fill_to.new.source) c.fill_to.new.self c.loop-far.number c.loop-far.at c.loop-far.joined so_far
 
 pub add_range-requires-clause-keep : goal.add_range-requires-clause-keep
 add_range-requires-clause-keep g c κs within =
-    let so_far = read_more c.args.scanner.now.context.now c.args.course c.requires.some (g.S.Source.left c.args.source.now) c.args.window.now (g.S.Source.left c.loop-joined.source) c.loop-joined.window
-    c.loop-joined.number c.loop-joined.at c.loop-joined.joined c.loop-joined.invariant.0 (g.S.Source.left c.fill_to.new.source) c.fill_to.new.self
+    let so_far = read_more c.args.scanner.now.context.now c.args.course c.requires.some (g.S.Source.left c.args.source.now) c.args.window.now (g.S.Source.left c.loop-far.source) c.loop-far.window
+    c.loop-far.number c.loop-far.at c.loop-far.joined c.loop-far.invariant.0 (g.S.Source.left c.fill_to.new.source) c.fill_to.new.self
     c.fill_to.ensures.moved c.fill_to.ensures.same.0 c.fill_to.ensures.same.1 c.fill_to.ensures.stays in
-    is_keep c.args.scanner.now.context.now c.args.course c.requires.some (g.S.Source.left c.args.source.now) c.args.window.now (g.S.Source.left c.fill_to.new.source) c.fill_to.new.self c.loop-joined.number c.loop-joined.at c.loop-joined.joined so_far
+    is_keep c.args.scanner.now.context.now c.args.course c.requires.some (g.S.Source.left c.args.source.now) c.args.window.now (g.S.Source.left c.fill_to.new.source) c.fill_to.new.self c.loop-far.number c.loop-far.at c.loop-far.joined so_far
 
 pub returns-then-at-len-clause-ok : goal.returns-then-at-len-clause-ok
 returns-then-at-len-clause-ok g c =
-    let so_far = read_more c.args.scanner.now.context.now c.args.course c.requires.some (g.S.Source.left c.args.source.now) c.args.window.now (g.S.Source.left c.loop-joined.source) c.loop-joined.window
-    c.loop-joined.number c.loop-joined.at c.loop-joined.joined c.loop-joined.invariant.0 (g.S.Source.left c.fill_to.new.source) c.fill_to.new.self
+    let so_far = read_more c.args.scanner.now.context.now c.args.course c.requires.some (g.S.Source.left c.args.source.now) c.args.window.now (g.S.Source.left c.loop-far.source) c.loop-far.window
+    c.loop-far.number c.loop-far.at c.loop-far.joined c.loop-far.invariant.0 (g.S.Source.left c.fill_to.new.source) c.fill_to.new.self
     c.fill_to.ensures.moved c.fill_to.ensures.same.0 c.fill_to.ensures.same.1 c.fill_to.ensures.stays in
-    let filled : IsFilled (c.loop-joined.at + range_reach c.args.course.range_size c.args.scanner.now.context.now.schema.max_line_size) c.fill_to.new.self =
-    subst (λ n. IsFilled (c.loop-joined.at + n) c.fill_to.new.self) c.range_reach-ahead.ensures c.in_ok-fill_to.ensures.ok in
-    read_all c.args.scanner.now.context.now c.args.course c.requires.some (g.S.Source.left c.args.source.now) c.args.window.now (g.S.Source.left c.fill_to.new.source) c.fill_to.new.self c.loop-joined.number c.loop-joined.at c.loop-joined.joined so_far filled (omega (arith, c.if-at-len.true, c.len.ensures))
+    let line = c.if-far.line in
+    let filled : IsFilled (c.loop-far.at + range_reach c.args.course.range_size line) c.fill_to.new.self =
+    subst (λ n. IsFilled (c.loop-far.at + n) c.fill_to.new.self) c.range_reach.ensures c.in_ok-fill_to.ensures.ok in
+    read_all c.args.scanner.now.context.now c.args.course c.requires.some (g.S.Source.left c.args.source.now) c.args.window.now (g.S.Source.left c.fill_to.new.source) c.fill_to.new.self c.loop-far.number c.loop-far.at c.loop-far.joined so_far line filled (omega (arith, c.if-at-len.true, c.len.ensures))
 
 pub returns-then-len-gt0-clause-ok : goal.returns-then-len-gt0-clause-ok
 returns-then-len-gt0-clause-ok g c =
-    let so_far = read_more c.args.scanner.now.context.now c.args.course c.requires.some (g.S.Source.left c.args.source.now) c.args.window.now (g.S.Source.left c.loop-joined.source) c.loop-joined.window
-    c.loop-joined.number c.loop-joined.at c.loop-joined.joined c.loop-joined.invariant.0 (g.S.Source.left c.fill_to.new.source) c.fill_to.new.self
+    let so_far = read_more c.args.scanner.now.context.now c.args.course c.requires.some (g.S.Source.left c.args.source.now) c.args.window.now (g.S.Source.left c.loop-far.source) c.loop-far.window
+    c.loop-far.number c.loop-far.at c.loop-far.joined c.loop-far.invariant.0 (g.S.Source.left c.fill_to.new.source) c.fill_to.new.self
     c.fill_to.ensures.moved c.fill_to.ensures.same.0 c.fill_to.ensures.same.1 c.fill_to.ensures.stays in
-    let filled : IsFilled (c.loop-joined.at + range_reach c.args.course.range_size c.args.scanner.now.context.now.schema.max_line_size) c.fill_to.new.self =
-    subst (λ n. IsFilled (c.loop-joined.at + n) c.fill_to.new.self) c.range_reach-ahead.ensures c.in_ok-fill_to.ensures.ok in
-    let there : c.loop-joined.at < length c.fill_to.new.self.kept = at_below c.loop-joined.at c.len.result (length c.fill_to.new.self.kept) c.if-at-len.false c.len.ensures
-    (at_within c.args.course.start c.args.course.range_size c.loop-joined.number c.loop-joined.at _ c.fill_to.new.self so_far.stands) in
-    let adds = in_window c.args.scanner.now.context.now c.bytes.result.now c.fill_to.new.self.kept c.base.result c.fill_to.new.self.base c.span_in-span.result
-    c.loop-joined.at c.len-in-loop-joined.result c.args.course.range_size c.loop-joined.number c.loop-joined.joined c.add_range.new.joined
-    c.bytes.ensures c.base.ensures c.span_in-span.ensures c.len-in-loop-joined.ensures c.in_ok-add_range.ensures in
-    read_stopped c.args.scanner.now.context.now c.args.course c.requires.some (g.S.Source.left c.args.source.now) c.args.window.now (g.S.Source.left c.fill_to.new.source) c.fill_to.new.self c.loop-joined.number c.loop-joined.at c.loop-joined.joined so_far filled there c.add_range.new.joined adds c.if-course.true (c.requires.keep c.if-course.true) (omega (arith, c.if-len-gt0.true, c.len-then-course.ensures)) c.in_ok-reject.reject c.in_ok-reject.ensures.ok
+    let line = c.if-far.line in
+    let filled : IsFilled (c.loop-far.at + range_reach c.args.course.range_size line) c.fill_to.new.self =
+    subst (λ n. IsFilled (c.loop-far.at + n) c.fill_to.new.self) c.range_reach.ensures c.in_ok-fill_to.ensures.ok in
+    let there : c.loop-far.at < length c.fill_to.new.self.kept = at_below c.loop-far.at c.len.result (length c.fill_to.new.self.kept) c.if-at-len.false c.len.ensures
+    (at_within c.args.course.start c.args.course.range_size c.loop-far.number c.loop-far.at _ c.fill_to.new.self so_far.stands) in
+    let adds = in_window c.args.scanner.now.context.now c.fill_to.new.self.kept c.fill_to.new.self.base c.span_in-span.result
+    c.loop-far.at c.len-in-loop-far.result c.args.course.range_size c.loop-far.number c.loop-far.joined c.add_range.new.joined
+    c.span_in-span.ensures c.len-in-loop-far.ensures (c.in_ok-add_range.ensures.ok c.if-not-branch.false) in
+    let long : c.loop-far.far ≡ true → c.args.scanner.now.context.now.schema.max_line_size ≤ line = elim c.if-far.branch as (λ _. c.loop-far.far ≡ true → c.args.scanner.now.context.now.schema.max_line_size ≤ line) [
+      | then-far v ↦ (λ told. omega (arith, v.line-is))
+      | else-far v ↦ (λ told. absurd (let wrong : ⊥ = (let off = v.if-far.false in cc) in wrong))
+    ] in
+    let sure_if : c.if-far-2.sure ≡ true → (c.loop-far.far ≡ true) ⊎ (c.fill_to.new.self.ended ≡ true) = elim c.if-far-2.branch as (λ _. c.if-far-2.sure ≡ true → (c.loop-far.far ≡ true) ⊎ (c.fill_to.new.self.ended ≡ true)) [
+      | then-far-2 v ↦ (λ told. inl v.if-far-2.true)
+      | else-far-2 v ↦ (λ told. inr (sym v.ended-sure.ensures ∙ sym v.sure-is ∙ told))
+    ] in
+    let enough = enough_in c.args.scanner.now.context.now c.fill_to.new.self c.span_in-span.result c.loop-far.at c.len-in-loop-far.result c.args.course.range_size c.loop-far.number c.loop-far.joined.end
+    line c.loop-far.far c.if-far-2.sure c.span_in-span.ensures c.len-in-loop-far.ensures long sure_if (c.in_ok-add_range.ensures.value c.if-not-branch.false) in
+    read_stopped c.args.scanner.now.context.now c.args.course c.requires.some (g.S.Source.left c.args.source.now) c.args.window.now (g.S.Source.left c.fill_to.new.source) c.fill_to.new.self c.loop-far.number c.loop-far.at c.loop-far.joined so_far line filled there enough c.add_range.new.joined adds c.if-course.true (c.requires.keep c.if-course.true) (omega (arith, c.if-len-gt0.true, c.len-then-course.ensures)) c.in_ok-reject.reject c.in_ok-reject.ensures.ok
 
-pub loop-joined-preserved : goal.loop-joined-preserved
-loop-joined-preserved g c =
-    let so_far = read_more c.args.scanner.now.context.now c.args.course c.requires.some (g.S.Source.left c.args.source.now) c.args.window.now (g.S.Source.left c.loop-joined.source) c.loop-joined.window
-    c.loop-joined.number c.loop-joined.at c.loop-joined.joined c.loop-joined.invariant.0 (g.S.Source.left c.fill_to.new.source) c.fill_to.new.self
+pub loop-far-preserved : goal.loop-far-preserved
+loop-far-preserved g c =
+    let so_far = read_more c.args.scanner.now.context.now c.args.course c.requires.some (g.S.Source.left c.args.source.now) c.args.window.now (g.S.Source.left c.loop-far.source) c.loop-far.window
+    c.loop-far.number c.loop-far.at c.loop-far.joined c.loop-far.invariant.0 (g.S.Source.left c.fill_to.new.source) c.fill_to.new.self
     c.fill_to.ensures.moved c.fill_to.ensures.same.0 c.fill_to.ensures.same.1 c.fill_to.ensures.stays in
-    let filled : IsFilled (c.loop-joined.at + range_reach c.args.course.range_size c.args.scanner.now.context.now.schema.max_line_size) c.fill_to.new.self =
-    subst (λ n. IsFilled (c.loop-joined.at + n) c.fill_to.new.self) c.range_reach-ahead.ensures c.in_ok-fill_to.ensures.ok in
-    let there : c.loop-joined.at < length c.fill_to.new.self.kept = at_below c.loop-joined.at c.len.result (length c.fill_to.new.self.kept) c.if-at-len.false c.len.ensures
-    (at_within c.args.course.start c.args.course.range_size c.loop-joined.number c.loop-joined.at _ c.fill_to.new.self so_far.stands) in
-    let adds = in_window c.args.scanner.now.context.now c.bytes.result.now c.fill_to.new.self.kept c.base.result c.fill_to.new.self.base c.span_in-span.result
-    c.loop-joined.at c.len-in-loop-joined.result c.args.course.range_size c.loop-joined.number c.loop-joined.joined c.add_range.new.joined
-    c.bytes.ensures c.base.ensures c.span_in-span.ensures c.len-in-loop-joined.ensures c.in_ok-add_range.ensures in
+    let line = c.if-far.line in
+    let filled : IsFilled (c.loop-far.at + range_reach c.args.course.range_size line) c.fill_to.new.self =
+    subst (λ n. IsFilled (c.loop-far.at + n) c.fill_to.new.self) c.range_reach.ensures c.in_ok-fill_to.ensures.ok in
+    let there : c.loop-far.at < length c.fill_to.new.self.kept = at_below c.loop-far.at c.len.result (length c.fill_to.new.self.kept) c.if-at-len.false c.len.ensures
+    (at_within c.args.course.start c.args.course.range_size c.loop-far.number c.loop-far.at _ c.fill_to.new.self so_far.stands) in
+    let adds = in_window c.args.scanner.now.context.now c.fill_to.new.self.kept c.fill_to.new.self.base c.span_in-span.result
+    c.loop-far.at c.len-in-loop-far.result c.args.course.range_size c.loop-far.number c.loop-far.joined c.add_range.new.joined
+    c.span_in-span.ensures c.len-in-loop-far.ensures (c.in_ok-add_range.ensures.ok c.if-not-branch.false) in
+    let long : c.loop-far.far ≡ true → c.args.scanner.now.context.now.schema.max_line_size ≤ line = elim c.if-far.branch as (λ _. c.loop-far.far ≡ true → c.args.scanner.now.context.now.schema.max_line_size ≤ line) [
+      | then-far v ↦ (λ told. omega (arith, v.line-is))
+      | else-far v ↦ (λ told. absurd (let wrong : ⊥ = (let off = v.if-far.false in cc) in wrong))
+    ] in
+    let sure_if : c.if-far-2.sure ≡ true → (c.loop-far.far ≡ true) ⊎ (c.fill_to.new.self.ended ≡ true) = elim c.if-far-2.branch as (λ _. c.if-far-2.sure ≡ true → (c.loop-far.far ≡ true) ⊎ (c.fill_to.new.self.ended ≡ true)) [
+      | then-far-2 v ↦ (λ told. inl v.if-far-2.true)
+      | else-far-2 v ↦ (λ told. inr (sym v.ended-sure.ensures ∙ sym v.sure-is ∙ told))
+    ] in
+    let enough = enough_in c.args.scanner.now.context.now c.fill_to.new.self c.span_in-span.result c.loop-far.at c.len-in-loop-far.result c.args.course.range_size c.loop-far.number c.loop-far.joined.end
+    line c.loop-far.far c.if-far-2.sure c.span_in-span.ensures c.len-in-loop-far.ensures long sure_if (c.in_ok-add_range.ensures.value c.if-not-branch.false) in
     let good : c.args.course.stop ≡ true → (c.args.scanner.now.context.now.keep ≡ First 1) × (length c.add_range.new.joined.book.stored ≤ 0) =
     λ stops. (
       c.requires.keep stops,
@@ -108,10 +132,24 @@ loop-joined-preserved g c =
         | else-course-via-else-course v ↦ absurd (let wrong : ⊥ = (let off = v.if-course.false in cc) in wrong)
       ],
     ) in (
-      read_in_next c.args.scanner.now.context.now c.args.course c.requires.some (g.S.Source.left c.args.source.now) c.args.window.now (g.S.Source.left c.fill_to.new.source) c.fill_to.new.self c.loop-joined.number c.loop-joined.at c.loop-joined.joined so_far filled there c.add_range.new.joined adds good
-          c.drop_front.new.self c.span_in-span.result c.span_in-span.ensures c.len-in-loop-joined.ensures c.drop_front.ensures,
+      read_in_next c.args.scanner.now.context.now c.args.course c.requires.some (g.S.Source.left c.args.source.now) c.args.window.now (g.S.Source.left c.fill_to.new.source) c.fill_to.new.self c.loop-far.number c.loop-far.at c.loop-far.joined so_far line filled there enough c.add_range.new.joined adds good
+          c.drop_front.new.self c.span_in-span.result c.span_in-span.ensures c.len-in-loop-far.ensures c.drop_front.ensures,
       omega arith,
       λ ended. c.fill_to.ensures.at_end (sym (ap (λ (v : WindowView). v.ended) c.drop_front.ensures) ∙ ended),
-      c.fill_to.ensures.held ∙ c.loop-joined.invariant.3,
-      omega (arith, c.fill_to.ensures.count, c.loop-joined.invariant.4),
+      c.fill_to.ensures.held ∙ c.loop-far.invariant.3,
+      omega (arith, c.fill_to.ensures.count, c.loop-far.invariant.4),
+    )
+
+pub loop-far-preserved-then-not-branch : goal.loop-far-preserved-then-not-branch
+loop-far-preserved-then-not-branch g c =
+    let so_far = read_more c.args.scanner.now.context.now c.args.course c.requires.some (g.S.Source.left c.args.source.now) c.args.window.now (g.S.Source.left c.loop-far.source) c.loop-far.window
+    c.loop-far.number c.loop-far.at c.loop-far.joined c.loop-far.invariant.0 (g.S.Source.left c.fill_to.new.source) c.fill_to.new.self
+    c.fill_to.ensures.moved c.fill_to.ensures.same.0 c.fill_to.ensures.same.1 c.fill_to.ensures.stays in
+    let same : c.add_range.new.joined ≡ c.loop-far.joined = (c.in_ok-add_range.ensures.same c.if-not-branch.true).1 in (
+      subst (λ (joined : Joined). IsUpToRange c.args.scanner.now.context.now c.args.course (g.S.Source.left c.args.source.now) (g.S.Source.left c.fill_to.new.source) c.args.window.now c.fill_to.new.self c.loop-far.number c.loop-far.at joined)
+          (sym same) so_far,
+      c.loop-far.invariant.1,
+      c.fill_to.ensures.at_end,
+      c.fill_to.ensures.held ∙ c.loop-far.invariant.3,
+      omega (arith, c.fill_to.ensures.count, c.loop-far.invariant.4),
     )
