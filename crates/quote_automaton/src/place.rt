@@ -1,0 +1,65 @@
+//! Places whose state is known by counting quotes.
+ghost use Rattle.std.specs.Prelude.{◌≡◌, IfSome};
+ghost use Rattle.byte_classes.specs.Dialect.{IsDialect};
+ghost use Rattle.quote_automaton.specs.Counted.{IsDoubling, state_of};
+
+use crate::state::State;
+use byte_classes::{Class, Dialect, class_of};
+
+/// What is known behind a byte: whether the next one stands between quotes, and the byte.
+#[derive(Clone, Copy)]
+pub(crate) struct Place {
+    pub(crate) inside: bool,
+    pub(crate) last: u8,
+}
+
+/// A byte that has no meaning in any dialect.
+const PLAIN: u8 = 255;
+
+/// The quote, where it is its own escape.
+pub(crate) fn doubled_quote(dialect: &Dialect) -> Option<u8>
+    ensures value { IfSome result (IsDoubling dialect.now) }
+    ensures sound { IsDialect dialect.now }
+{
+    if dialect.quote() == dialect.escape() {
+        dialect.quote()
+    } else {
+        None
+    }
+}
+
+/// The place whose state this is, where counting gives it.
+#[inline(always)]
+pub(crate) fn place_of(dialect: &Dialect, quote: u8, state: State) -> Option<Place>
+    requires sound { IsDialect dialect.now }
+    requires doubling { IsDoubling dialect.now quote }
+    ensures { IfSome result (λ place. state_of dialect.now place ≡ state) }
+{
+    let (inside, last) = match state {
+        State::RowStart => (false, b'\n'),
+        State::CrSeen => (false, b'\r'),
+        State::FieldStart => (false, dialect.delim()),
+        State::Plain => (false, PLAIN),
+        State::Quoted => (true, PLAIN),
+        State::QuoteSeen => (false, quote),
+        State::Escape | State::Broken | State::Comment => return None,
+    };
+    Some(Place { inside, last })
+}
+
+/// The state at a place.
+#[inline(always)]
+pub(crate) fn state_of(dialect: &Dialect, place: Place) -> State
+    ensures { result ≡ state_of dialect.now place }
+{
+    if place.inside {
+        return State::Quoted;
+    }
+    match class_of(dialect, place.last) {
+        Class::Lf => State::RowStart,
+        Class::Cr => State::CrSeen,
+        Class::Delim => State::FieldStart,
+        Class::Quote => State::QuoteSeen,
+        Class::Escape | Class::Comment | Class::Other => State::Plain,
+    }
+}
