@@ -140,6 +140,46 @@ fn states_follow_the_bytes(rt: HostRuntime) {
     }
 }
 
+const BEHIND_RUNS: [Behind; 7] = [
+    Behind(
+        "a bare field that has more bytes than a block of sixty-four has it,\"b",
+        State::Quoted,
+    ),
+    Behind(
+        "a bare field that has more bytes than a block of sixty-four has it\"b",
+        State::Plain,
+    ),
+    Behind(
+        "a bare field that has more bytes than a block of sixty-four has\n#\"b",
+        State::Comment,
+    ),
+    Behind(
+        "a bare field, a quote \" and more bytes than a block of sixty-four,\"b",
+        State::Quoted,
+    ),
+    Behind(
+        "\"a quoted field, \"\"of\"\" more\n#bytes than a block of sixty-four has\"",
+        State::QuoteSeen,
+    ),
+    Behind(
+        "\"a quoted field\" with bytes behind it, and more than sixty-four of them",
+        State::Broken,
+    ),
+    Behind(
+        "\"a quoted field\"\n#\" a comment line of more bytes than sixty-four bytes",
+        State::Comment,
+    ),
+];
+
+#[test]
+fn states_follow_runs_of_many_bytes(rt: HostRuntime) {
+    let hash = commented(&rt, commas(&rt));
+    for row in &BEHIND_RUNS {
+        let state = fold(&hash, State::RowStart, row.0.as_bytes());
+        assert_eq!(rt; state, row.1, "after {}", row.0);
+    }
+}
+
 #[test]
 fn a_quote_without_an_escape_breaks_the_field(rt: HostRuntime) -> Result<(), DialectFault> {
     let bare = Dialect::new(b',', Some(b'"'), None)?;
