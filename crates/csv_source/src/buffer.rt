@@ -84,6 +84,19 @@ impl Buffer {
         self.filled -= count;
     }
 
+    /// Holds a copy of these bytes instead, in the memory that it has.
+    pub fn replace(&mut self, bytes: &[u8]) -> Result<(), NoMemory>
+        ensures ok { OnOk result (self.new ≡ bytes.now) }
+        ensures err { OnErr result (self.new ≡ self.old) }
+    {
+        let to = bytes.len();
+        extend(&mut self.memory, to, to)?;
+        let (front, _) = self.memory.split_at_mut(to);
+        front.copy_from_slice(bytes);
+        self.filled = to;
+        Ok(())
+    }
+
     /// Reads once, at most so many bytes, and answers how many came.
     fn read_piece<S: Source>(&mut self, source: &mut S, missing: u64) -> Result<usize, ReadStop>
         requires some { 0 < missing }
