@@ -9,6 +9,7 @@ ghost use Rattle.window_load.specs.DataRead.{IsWindowRead, Comes, ComesWhole, Co
 ghost use Rattle.window_load.specs.declared.stop.LoadStop.TheVariants as stops;
 
 use crate::course::Course;
+use crate::crew::GroupReader;
 use crate::data_read::{WindowRead, window_read};
 use crate::groups::read_groups;
 use crate::stop::LoadStop;
@@ -19,11 +20,11 @@ use std::alloc::Global;
 use std::thread::Threads;
 
 /// Loads the data of an input, of which the head was read. They begin at a place of the head, and go on with what is left
-/// of the source. One group of ranges is held at a time, with what its last rows reach over, and read by at most `threads`
-/// workers. With `stop` the load ends with the first reject; the rest is then read and dropped. The head comes by
+/// of the source. A group of ranges, with what its last rows reach over, is read by at most `threads` workers while the next
+/// one comes, and one range at a time where there is one worker. With `stop` the load ends with the first reject; the rest is then read and dropped. The head comes by
 /// value: no byte of the sample is copied, a terminal or a pipe that ended isn't asked again, and with the answer the
 /// input is let go, before a report of it is rendered.
-pub fn window_load<R: Threads + Sync, S: Source, G: Gate>(
+pub fn window_load<R: Threads + Sync, S: Source + Send, G: Gate>(
     rt: &R,
     alloc: Global,
     context: &Context,
@@ -64,16 +65,14 @@ pub fn window_load<R: Threads + Sync, S: Source, G: Gate>(
         range_size,
         stop,
     };
-    let read = read_groups(
+    let reader = GroupReader {
         rt,
         alloc,
         context,
-        course,
         threads,
-        &mut window,
-        source,
         gate,
-    )?;
+    };
+    let read = read_groups(&reader, course, &mut window, source)?;
     window.read_past(source)?;
     let length = window.reach() - course.start;
     Ok(window_read(read, length, range_size))

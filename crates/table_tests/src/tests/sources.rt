@@ -68,7 +68,7 @@ fn reads_on(
 }
 
 #[test]
-fn a_buffer_drops_and_reads_on(rt: HostRuntime) -> Result<(), NoMemory> {
+fn a_buffer_drops_reads_on_and_takes_a_copy(rt: HostRuntime) -> Result<(), NoMemory> {
     let mut source = source_of(rt.alloc(), 3, 5)?;
     assert!(rt; source.open("f.csv").is_ok());
     let mut bytes = Buffer::new(rt.alloc());
@@ -78,6 +78,8 @@ fn a_buffer_drops_and_reads_on(rt: HostRuntime) -> Result<(), NoMemory> {
     assert_eq!(rt; bytes.as_slice(), b"e".as_slice());
     assert!(rt; reads_on(&mut bytes, &mut source, 20, Err(ReadStop::Failed), b"efgh"));
     assert!(rt; reads_on(&mut bytes, &mut source, 20, Ok(More::Ended), b"efghij"));
+    bytes.replace(b"xy")?;
+    assert!(rt; reads_on(&mut bytes, &mut source, 20, Ok(More::Ended), b"xy"));
     Ok(())
 }
 

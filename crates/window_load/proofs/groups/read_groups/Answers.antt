@@ -1,131 +1,154 @@
-use Rattle.std.proofs.Common.{◌≡◌, ◌+◌, ◌<◌, ◌≤◌, ◌^◌, sym, subst, ap, ◌∙◌, length, refl, arith}
+use Rattle.std.proofs.Common.{◌≡◌, ◌+◌, ◌-◌, ◌<◌, ◌≤◌, ◌^◌, sym, subst, ap, ◌∙◌, length, Err, refl, arith, rules}
 use Rattle.reject_book.specs.BookView.{BookView}
+use Rattle.load_crew.specs.declared.group.Group.{Group}
+use Rattle.window_load.specs.declared.ranges_read.RangesRead.TheVariants as reads
+use Rattle.window_load.specs.declared.stop.LoadStop.TheVariants as stops
 use Rattle.window_load.specs.Groups.{group_reach}
-use Rattle.window_load.specs.Window.{WindowView, IsFilled, reach}
+use Rattle.window_load.specs.Window.{IsFilled, behind_front, reach}
+use Rattle.window_load.proofs.GoesOn.{goes_on_and_reaches, still_read}
 use Rattle.window_load.proofs.GroupsRead.{read_none, read_more, read_all, read_stopped, in_window, are_types, is_keep, read_in_next}
 use Rattle.window_load.proofs.GroupWindows.{group_width}
 use Rattle.window_load.proofs.GroupTasks.{is_task, numbers_within}
-use Rattle.window_load.proofs.WindowSteps.{at_within, at_below}
+use Rattle.window_load.proofs.ReachedOn.{reaches_twice}
+use Rattle.window_load.proofs.WindowSteps.{at_within}
 use Rattle.window_load.proofs.groups.read_groups.Goals as goal
 
-pub loop-joined-init : goal.loop-joined-init
-loop-joined-init g c = (
-  read_none c.args.context.now c.args.course c.requires.some (g.S.Source.left c.args.source.now) c.args.window.now c.in_ok-joined.joined c.requires.begins c.in_ok-joined.ensures,
-  omega arith,
-  c.requires.at_end,
-  refl,
-  omega arith,
-)
+pub loop-at-init : goal.loop-at-init
+loop-at-init g c =
+    let is_ahead : c.group_reach-ahead.result ≡ 0 + group_reach c.args.course.range_size c.args.reader.now.context.now.schema.max_line_size = omega (arith, c.group_reach-ahead.ensures) in (
+      read_more c.args.reader.now.context.now c.args.course c.requires.some (g.S.Source.left c.args.source.now) c.args.window.now (g.S.Source.left c.args.source.now) c.args.window.now 0 0 c.in_ok-joined.joined (read_none c.args.reader.now.context.now c.args.course c.requires.some (g.S.Source.left c.args.source.now) c.args.window.now c.in_ok-joined.joined c.requires.begins c.in_ok-joined.ensures)
+          (g.S.Source.left c.fill_to.new.source) c.fill_to.new.self c.fill_to.ensures.moved c.fill_to.ensures.same.0 c.fill_to.ensures.same.1 c.fill_to.ensures.stays,
+      subst (λ n. IsFilled n c.fill_to.new.self) is_ahead c.in_ok-fill_to.ensures.ok,
+      omega arith,
+      c.fill_to.ensures.at_end,
+      c.fill_to.ensures.held,
+      c.fill_to.ensures.count,
+    )
 
-pub returns-in_err-fill_to-clause-moved : goal.returns-in_err-fill_to-clause-moved
-returns-in_err-fill_to-clause-moved g c =
-    let so_far = read_more c.args.context.now c.args.course c.requires.some (g.S.Source.left c.args.source.now) c.args.window.now (g.S.Source.left c.loop-joined.source) c.loop-joined.window
-    c.loop-joined.number c.loop-joined.at c.loop-joined.joined c.loop-joined.invariant.0 (g.S.Source.left c.fill_to.new.source) c.fill_to.new.self
-    c.fill_to.ensures.moved c.fill_to.ensures.same.0 c.fill_to.ensures.same.1 c.fill_to.ensures.stays in
-    (so_far.came, so_far.taken, so_far.reached, so_far.most)
+pub group_in-requires-clause-room : goal.group_in-requires-clause-room
+group_in-requires-clause-room g c = omega (arith, c.len-in-loop-at.ensures, c.loop-at.invariant.1.1, c.loop-at.invariant.0.most, c.requires.room)
 
-pub returns-then-at-len-clause-moved : goal.returns-then-at-len-clause-moved
-returns-then-at-len-clause-moved g c =
-    let so_far = read_more c.args.context.now c.args.course c.requires.some (g.S.Source.left c.args.source.now) c.args.window.now (g.S.Source.left c.loop-joined.source) c.loop-joined.window
-    c.loop-joined.number c.loop-joined.at c.loop-joined.joined c.loop-joined.invariant.0 (g.S.Source.left c.fill_to.new.source) c.fill_to.new.self
-    c.fill_to.ensures.moved c.fill_to.ensures.same.0 c.fill_to.ensures.same.1 c.fill_to.ensures.stays in
-    (so_far.came, so_far.taken, so_far.reached, so_far.most)
+pub group_in-requires-clause-numbers : goal.group_in-requires-clause-numbers
+group_in-requires-clause-numbers g c =
+    let there : c.loop-at.at < length c.loop-at.window.kept = omega (arith, c.loop-at-test.true, c.len.ensures) in
+    let reaches : reach c.loop-at.window ≤ 2 ^ 32 = omega (arith, c.loop-at.invariant.1.1, c.loop-at.invariant.0.most, c.requires.room) in
+    numbers_within c.args.course.start c.args.course.range_size c.loop-at.number c.loop-at.at _ c.loop-at.window c.loop-at.invariant.0.stands c.requires.some there reaches
 
-pub read_by_crew-requires-clause-group : goal.read_by_crew-requires-clause-group
-read_by_crew-requires-clause-group g c κs within =
-    let so_far = read_more c.args.context.now c.args.course c.requires.some (g.S.Source.left c.args.source.now) c.args.window.now (g.S.Source.left c.loop-joined.source) c.loop-joined.window
-    c.loop-joined.number c.loop-joined.at c.loop-joined.joined c.loop-joined.invariant.0 (g.S.Source.left c.fill_to.new.source) c.fill_to.new.self
-    c.fill_to.ensures.moved c.fill_to.ensures.same.0 c.fill_to.ensures.same.1 c.fill_to.ensures.stays in
-    let there : c.loop-joined.at < length c.fill_to.new.self.kept = at_below c.loop-joined.at c.len.result (length c.fill_to.new.self.kept) c.if-at-len.false c.len.ensures
-    (at_within c.args.course.start (group_width c.args.course.range_size) c.loop-joined.number c.loop-joined.at _ c.fill_to.new.self so_far.stands) in
-    let before : c.loop-joined.at < c.len-in-loop-joined.result = omega (arith, there, c.len-in-loop-joined.ensures) in
-    let is_len : c.len-in-loop-joined.result ≡ length c.bytes-bytes.result.now = c.len-in-loop-joined.ensures ∙ sym (ap length c.bytes-bytes.ensures) in
-    let reaches : reach c.fill_to.new.self ≤ 2 ^ 32 = omega (arith, c.in_ok-fill_to.ensures.ok.1, so_far.most, c.requires.room) in
-    let numbers = numbers_within c.args.course.start c.args.course.range_size c.loop-joined.number c.loop-joined.at _ c.fill_to.new.self so_far.stands c.requires.some there reaches in
-    is_task c.args.context.now c.bytes-bytes.result.now c.base-base.result c.loop-joined.at c.len-in-loop-joined.result c.args.course.range_size c.loop-joined.number c.loop-joined.joined.end c.group_in-group.result
-    c.requires.some before is_len numbers (omega (arith, reaches, c.base-base.ensures, is_len, c.len-in-loop-joined.ensures)) c.requires.fits c.group_in-group.ensures
+pub read_ahead-requires-clause-group : goal.read_ahead-requires-clause-group
+read_ahead-requires-clause-group g c κs known =
+    let there : c.loop-at.at < length c.loop-at.window.kept = omega (arith, c.loop-at-test.true, c.len.ensures) in
+    let reaches : reach c.loop-at.window ≤ 2 ^ 32 = omega (arith, c.loop-at.invariant.1.1, c.loop-at.invariant.0.most, c.requires.room) in
+    is_task c.args.reader.now.context.now c.loop-at.window.kept c.loop-at.window.base c.loop-at.at c.len-in-loop-at.result c.args.course.range_size c.loop-at.number c.loop-at.joined.end c.group_in.result
+    c.requires.some (omega (arith, there, c.len-in-loop-at.ensures)) c.len-in-loop-at.ensures (numbers_within c.args.course.start c.args.course.range_size c.loop-at.number c.loop-at.at _ c.loop-at.window c.loop-at.invariant.0.stands c.requires.some there reaches) (omega (arith, reaches)) c.requires.fits c.group_in.ensures
+
+pub read_ahead-requires-clause-within : goal.read_ahead-requires-clause-within
+read_ahead-requires-clause-within g c κs known = c.loop-at.invariant.1.1
+
+pub read_ahead-requires-clause-at_end : goal.read_ahead-requires-clause-at_end
+read_ahead-requires-clause-at_end g c κs known = c.loop-at.invariant.3
 
 pub returns-in_err-read-clause-moved : goal.returns-in_err-read-clause-moved
 returns-in_err-read-clause-moved g c =
-    let so_far = read_more c.args.context.now c.args.course c.requires.some (g.S.Source.left c.args.source.now) c.args.window.now (g.S.Source.left c.loop-joined.source) c.loop-joined.window
-    c.loop-joined.number c.loop-joined.at c.loop-joined.joined c.loop-joined.invariant.0 (g.S.Source.left c.fill_to.new.source) c.fill_to.new.self
-    c.fill_to.ensures.moved c.fill_to.ensures.same.0 c.fill_to.ensures.same.1 c.fill_to.ensures.stays in
-    (so_far.came, so_far.taken, so_far.reached, so_far.most)
+    let within : c.group_in.result.to - 1 ≤ length c.loop-at.window.kept = omega (arith, ap (λ (group : Group). group.to) c.group_in.ensures, c.len-in-loop-at.ensures) in
+    let so_far = c.loop-at.invariant.0 in
+    reaches_twice (g.S.Source.left c.args.source.now) (g.S.Source.left c.loop-at.source) (g.S.Source.left c.read_ahead.new.source) c.args.window.now c.loop-at.window c.read_ahead.new.window (so_far.came, so_far.taken, so_far.reached, so_far.most)
+    (goes_on_and_reaches (g.S.Source.left c.loop-at.source) (g.S.Source.left c.read_ahead.new.source) (c.group_in.result.to - 1) c.loop-at.window c.read_ahead.new.window c.read_ahead.ensures.moved within)
+
+pub returns-in_err-read-clause-held : goal.returns-in_err-read-clause-held
+returns-in_err-read-clause-held g c = c.read_ahead.ensures.held ∙ c.loop-at.invariant.4
+
+pub returns-in_err-read-clause-count : goal.returns-in_err-read-clause-count
+returns-in_err-read-clause-count g c = omega (arith, c.read_ahead.ensures.count, c.loop-at.invariant.5)
+
+pub returns-in_err-read-clause-failed : goal.returns-in_err-read-clause-failed
+returns-in_err-read-clause-failed g c = λ e.
+    let failed : c.read_ahead.result ≡ Err stops.Failed = search rules in
+    omega (arith, c.read_ahead.ensures.failed failed, c.loop-at.invariant.5)
 
 pub returns-in_err-reject-clause-moved : goal.returns-in_err-reject-clause-moved
 returns-in_err-reject-clause-moved g c =
-    let so_far = read_more c.args.context.now c.args.course c.requires.some (g.S.Source.left c.args.source.now) c.args.window.now (g.S.Source.left c.loop-joined.source) c.loop-joined.window
-    c.loop-joined.number c.loop-joined.at c.loop-joined.joined c.loop-joined.invariant.0 (g.S.Source.left c.fill_to.new.source) c.fill_to.new.self
-    c.fill_to.ensures.moved c.fill_to.ensures.same.0 c.fill_to.ensures.same.1 c.fill_to.ensures.stays in
-    (so_far.came, so_far.taken, so_far.reached, so_far.most)
+    let within : c.group_in.result.to - 1 ≤ length c.loop-at.window.kept = omega (arith, ap (λ (group : Group). group.to) c.group_in.ensures, c.len-in-loop-at.ensures) in
+    let so_far = c.loop-at.invariant.0 in
+    reaches_twice (g.S.Source.left c.args.source.now) (g.S.Source.left c.loop-at.source) (g.S.Source.left c.read_ahead.new.source) c.args.window.now c.loop-at.window c.read_ahead.new.window (so_far.came, so_far.taken, so_far.reached, so_far.most)
+    (goes_on_and_reaches (g.S.Source.left c.loop-at.source) (g.S.Source.left c.read_ahead.new.source) (c.group_in.result.to - 1) c.loop-at.window c.read_ahead.new.window c.read_ahead.ensures.moved within)
 
-pub returns-then-read-clause-moved : goal.returns-then-read-clause-moved
-returns-then-read-clause-moved g c =
-    let so_far = read_more c.args.context.now c.args.course c.requires.some (g.S.Source.left c.args.source.now) c.args.window.now (g.S.Source.left c.loop-joined.source) c.loop-joined.window
-    c.loop-joined.number c.loop-joined.at c.loop-joined.joined c.loop-joined.invariant.0 (g.S.Source.left c.fill_to.new.source) c.fill_to.new.self
-    c.fill_to.ensures.moved c.fill_to.ensures.same.0 c.fill_to.ensures.same.1 c.fill_to.ensures.stays in
-    (so_far.came, so_far.taken, so_far.reached, so_far.most)
+pub returns-in_err-reject-clause-held : goal.returns-in_err-reject-clause-held
+returns-in_err-reject-clause-held g c = c.read_ahead.ensures.held ∙ c.loop-at.invariant.4
 
-pub returns-in_err-append-clause-moved : goal.returns-in_err-append-clause-moved
-returns-in_err-append-clause-moved g c =
-    let so_far = read_more c.args.context.now c.args.course c.requires.some (g.S.Source.left c.args.source.now) c.args.window.now (g.S.Source.left c.loop-joined.source) c.loop-joined.window
-    c.loop-joined.number c.loop-joined.at c.loop-joined.joined c.loop-joined.invariant.0 (g.S.Source.left c.fill_to.new.source) c.fill_to.new.self
-    c.fill_to.ensures.moved c.fill_to.ensures.same.0 c.fill_to.ensures.same.1 c.fill_to.ensures.stays in
-    (so_far.came, so_far.taken, so_far.reached, so_far.most)
-
-pub returns-then-at-len-clause-ok : goal.returns-then-at-len-clause-ok
-returns-then-at-len-clause-ok g c =
-    let so_far = read_more c.args.context.now c.args.course c.requires.some (g.S.Source.left c.args.source.now) c.args.window.now (g.S.Source.left c.loop-joined.source) c.loop-joined.window
-    c.loop-joined.number c.loop-joined.at c.loop-joined.joined c.loop-joined.invariant.0 (g.S.Source.left c.fill_to.new.source) c.fill_to.new.self
-    c.fill_to.ensures.moved c.fill_to.ensures.same.0 c.fill_to.ensures.same.1 c.fill_to.ensures.stays in
-    let filled : IsFilled (c.loop-joined.at + group_reach c.args.course.range_size c.args.context.now.schema.max_line_size) c.fill_to.new.self =
-    subst (λ n. IsFilled (c.loop-joined.at + n) c.fill_to.new.self) c.group_reach-ahead.ensures c.in_ok-fill_to.ensures.ok in
-    read_all c.args.context.now c.args.course c.requires.some (g.S.Source.left c.args.source.now) c.args.window.now (g.S.Source.left c.fill_to.new.source) c.fill_to.new.self c.loop-joined.number c.loop-joined.at c.loop-joined.joined so_far filled (omega (arith, c.if-at-len.true, c.len.ensures))
+pub returns-in_err-reject-clause-count : goal.returns-in_err-reject-clause-count
+returns-in_err-reject-clause-count g c = omega (arith, c.read_ahead.ensures.count, c.loop-at.invariant.5)
 
 pub returns-then-read-clause-ok : goal.returns-then-read-clause-ok
 returns-then-read-clause-ok g c =
-    let so_far = read_more c.args.context.now c.args.course c.requires.some (g.S.Source.left c.args.source.now) c.args.window.now (g.S.Source.left c.loop-joined.source) c.loop-joined.window
-    c.loop-joined.number c.loop-joined.at c.loop-joined.joined c.loop-joined.invariant.0 (g.S.Source.left c.fill_to.new.source) c.fill_to.new.self
-    c.fill_to.ensures.moved c.fill_to.ensures.same.0 c.fill_to.ensures.same.1 c.fill_to.ensures.stays in
-    let filled : IsFilled (c.loop-joined.at + group_reach c.args.course.range_size c.args.context.now.schema.max_line_size) c.fill_to.new.self =
-    subst (λ n. IsFilled (c.loop-joined.at + n) c.fill_to.new.self) c.group_reach-ahead.ensures c.in_ok-fill_to.ensures.ok in
-    let there : c.loop-joined.at < length c.fill_to.new.self.kept = at_below c.loop-joined.at c.len.result (length c.fill_to.new.self.kept) c.if-at-len.false c.len.ensures
-    (at_within c.args.course.start (group_width c.args.course.range_size) c.loop-joined.number c.loop-joined.at _ c.fill_to.new.self so_far.stands) in
-    let is = in_window c.args.context.now c.bytes-bytes.result.now c.fill_to.new.self.kept c.base-base.result c.fill_to.new.self.base c.group_in-group.result
-    c.loop-joined.at c.len-in-loop-joined.result c.args.course.range_size c.loop-joined.number c.loop-joined.joined.end c.args.course.stop c.in_ok-read.read
-    c.bytes-bytes.ensures c.base-base.ensures c.group_in-group.ensures c.len-in-loop-joined.ensures c.in_ok-read.ensures.ok in
-    read_stopped c.args.context.now c.args.course c.requires.some (g.S.Source.left c.args.source.now) c.args.window.now (g.S.Source.left c.fill_to.new.source) c.fill_to.new.self c.loop-joined.number c.loop-joined.at c.loop-joined.joined so_far filled there c.in_ok-read.read is c.if-read.true c.requires.keep c.in_ok-reject.reject c.in_ok-reject.ensures.ok
+    let there : c.loop-at.at < length c.loop-at.window.kept = omega (arith, c.loop-at-test.true, c.len.ensures) in
+    let within : c.group_in.result.to - 1 ≤ length c.loop-at.window.kept = omega (arith, ap (λ (group : Group). group.to) c.group_in.ensures, c.len-in-loop-at.ensures) in
+    let is = in_window c.args.reader.now.context.now c.loop-at.window.kept c.loop-at.window.kept c.loop-at.window.base c.loop-at.window.base c.group_in.result c.loop-at.at c.len-in-loop-at.result
+    c.args.course.range_size c.loop-at.number c.loop-at.joined.end c.args.course.stop c.in_ok-read.read refl refl c.group_in.ensures c.len-in-loop-at.ensures c.in_ok-read.ensures.ok in
+    still_read (g.S.Source.left c.loop-at.source) (g.S.Source.left c.read_ahead.new.source) (c.group_in.result.to - 1) c.loop-at.window c.read_ahead.new.window c.read_ahead.ensures.moved within c.args.reader.now.context.now c.args.course (g.S.Source.left c.args.source.now) c.args.window.now (reads.Stopped c.in_ok-reject.reject)
+    (read_stopped c.args.reader.now.context.now c.args.course c.requires.some (g.S.Source.left c.args.source.now) c.args.window.now (g.S.Source.left c.loop-at.source) c.loop-at.window c.loop-at.number c.loop-at.at c.loop-at.joined c.loop-at.invariant.0 c.loop-at.invariant.1 there c.in_ok-read.read is c.if-read.true c.requires.keep c.in_ok-reject.reject c.in_ok-reject.ensures.ok)
+
+pub returns-then-read-clause-moved : goal.returns-then-read-clause-moved
+returns-then-read-clause-moved g c =
+    let within : c.group_in.result.to - 1 ≤ length c.loop-at.window.kept = omega (arith, ap (λ (group : Group). group.to) c.group_in.ensures, c.len-in-loop-at.ensures) in
+    let so_far = c.loop-at.invariant.0 in
+    reaches_twice (g.S.Source.left c.args.source.now) (g.S.Source.left c.loop-at.source) (g.S.Source.left c.read_ahead.new.source) c.args.window.now c.loop-at.window c.read_ahead.new.window (so_far.came, so_far.taken, so_far.reached, so_far.most)
+    (goes_on_and_reaches (g.S.Source.left c.loop-at.source) (g.S.Source.left c.read_ahead.new.source) (c.group_in.result.to - 1) c.loop-at.window c.read_ahead.new.window c.read_ahead.ensures.moved within)
+
+pub returns-then-read-clause-held : goal.returns-then-read-clause-held
+returns-then-read-clause-held g c = c.read_ahead.ensures.held ∙ c.loop-at.invariant.4
+
+pub returns-then-read-clause-count : goal.returns-then-read-clause-count
+returns-then-read-clause-count g c = omega (arith, c.read_ahead.ensures.count, c.loop-at.invariant.5)
 
 pub append-requires-clause-types : goal.append-requires-clause-types
-append-requires-clause-types g c =
-    let so_far = read_more c.args.context.now c.args.course c.requires.some (g.S.Source.left c.args.source.now) c.args.window.now (g.S.Source.left c.loop-joined.source) c.loop-joined.window
-    c.loop-joined.number c.loop-joined.at c.loop-joined.joined c.loop-joined.invariant.0 (g.S.Source.left c.fill_to.new.source) c.fill_to.new.self
-    c.fill_to.ensures.moved c.fill_to.ensures.same.0 c.fill_to.ensures.same.1 c.fill_to.ensures.stays in
-    are_types c.args.context.now c.args.course c.requires.some (g.S.Source.left c.args.source.now) c.args.window.now (g.S.Source.left c.fill_to.new.source) c.fill_to.new.self c.loop-joined.number c.loop-joined.at c.loop-joined.joined so_far ∙ sym c.in_ok-read.ensures.ok.part.types
+append-requires-clause-types g c = are_types c.args.reader.now.context.now c.args.course c.requires.some (g.S.Source.left c.args.source.now) c.args.window.now (g.S.Source.left c.loop-at.source) c.loop-at.window c.loop-at.number c.loop-at.at c.loop-at.joined c.loop-at.invariant.0 ∙ sym c.in_ok-read.ensures.ok.part.types
 
 pub append-requires-clause-same : goal.append-requires-clause-same
-append-requires-clause-same g c =
-    let so_far = read_more c.args.context.now c.args.course c.requires.some (g.S.Source.left c.args.source.now) c.args.window.now (g.S.Source.left c.loop-joined.source) c.loop-joined.window
-    c.loop-joined.number c.loop-joined.at c.loop-joined.joined c.loop-joined.invariant.0 (g.S.Source.left c.fill_to.new.source) c.fill_to.new.self
-    c.fill_to.ensures.moved c.fill_to.ensures.same.0 c.fill_to.ensures.same.1 c.fill_to.ensures.stays in
-    is_keep c.args.context.now c.args.course c.requires.some (g.S.Source.left c.args.source.now) c.args.window.now (g.S.Source.left c.fill_to.new.source) c.fill_to.new.self c.loop-joined.number c.loop-joined.at c.loop-joined.joined so_far ∙ sym (ap (λ (b : BookView). b.keep) c.in_ok-read.ensures.ok.part.book)
+append-requires-clause-same g c = is_keep c.args.reader.now.context.now c.args.course c.requires.some (g.S.Source.left c.args.source.now) c.args.window.now (g.S.Source.left c.loop-at.source) c.loop-at.window c.loop-at.number c.loop-at.at c.loop-at.joined c.loop-at.invariant.0 ∙ sym (ap (λ (b : BookView). b.keep) c.in_ok-read.ensures.ok.part.book)
 
-pub loop-joined-preserved : goal.loop-joined-preserved
-loop-joined-preserved g c =
-    let so_far = read_more c.args.context.now c.args.course c.requires.some (g.S.Source.left c.args.source.now) c.args.window.now (g.S.Source.left c.loop-joined.source) c.loop-joined.window
-    c.loop-joined.number c.loop-joined.at c.loop-joined.joined c.loop-joined.invariant.0 (g.S.Source.left c.fill_to.new.source) c.fill_to.new.self
-    c.fill_to.ensures.moved c.fill_to.ensures.same.0 c.fill_to.ensures.same.1 c.fill_to.ensures.stays in
-    let filled : IsFilled (c.loop-joined.at + group_reach c.args.course.range_size c.args.context.now.schema.max_line_size) c.fill_to.new.self =
-    subst (λ n. IsFilled (c.loop-joined.at + n) c.fill_to.new.self) c.group_reach-ahead.ensures c.in_ok-fill_to.ensures.ok in
-    let there : c.loop-joined.at < length c.fill_to.new.self.kept = at_below c.loop-joined.at c.len.result (length c.fill_to.new.self.kept) c.if-at-len.false c.len.ensures
-    (at_within c.args.course.start (group_width c.args.course.range_size) c.loop-joined.number c.loop-joined.at _ c.fill_to.new.self so_far.stands) in
-    let is = in_window c.args.context.now c.bytes-bytes.result.now c.fill_to.new.self.kept c.base-base.result c.fill_to.new.self.base c.group_in-group.result
-    c.loop-joined.at c.len-in-loop-joined.result c.args.course.range_size c.loop-joined.number c.loop-joined.joined.end c.args.course.stop c.in_ok-read.read
-    c.bytes-bytes.ensures c.base-base.ensures c.group_in-group.ensures c.len-in-loop-joined.ensures c.in_ok-read.ensures.ok in (
-      read_in_next c.args.context.now c.args.course c.requires.some (g.S.Source.left c.args.source.now) c.args.window.now (g.S.Source.left c.fill_to.new.source) c.fill_to.new.self c.loop-joined.number c.loop-joined.at c.loop-joined.joined so_far filled there c.in_ok-read.read is c.if-read.false c.append.new.self c.in_ok-append.ensures.ok
-          c.drop_front.new.self c.group_in-group.result c.group_in-group.ensures c.len-in-loop-joined.ensures c.drop_front.ensures,
+pub returns-in_err-append-clause-moved : goal.returns-in_err-append-clause-moved
+returns-in_err-append-clause-moved g c =
+    let within : c.group_in.result.to - 1 ≤ length c.loop-at.window.kept = omega (arith, ap (λ (group : Group). group.to) c.group_in.ensures, c.len-in-loop-at.ensures) in
+    let so_far = c.loop-at.invariant.0 in
+    reaches_twice (g.S.Source.left c.args.source.now) (g.S.Source.left c.loop-at.source) (g.S.Source.left c.read_ahead.new.source) c.args.window.now c.loop-at.window c.read_ahead.new.window (so_far.came, so_far.taken, so_far.reached, so_far.most)
+    (goes_on_and_reaches (g.S.Source.left c.loop-at.source) (g.S.Source.left c.read_ahead.new.source) (c.group_in.result.to - 1) c.loop-at.window c.read_ahead.new.window c.read_ahead.ensures.moved within)
+
+pub returns-in_err-append-clause-held : goal.returns-in_err-append-clause-held
+returns-in_err-append-clause-held g c = c.read_ahead.ensures.held ∙ c.loop-at.invariant.4
+
+pub returns-in_err-append-clause-count : goal.returns-in_err-append-clause-count
+returns-in_err-append-clause-count g c = omega (arith, c.read_ahead.ensures.count, c.loop-at.invariant.5)
+
+pub loop-at-preserved : goal.loop-at-preserved
+loop-at-preserved g c =
+    let there : c.loop-at.at < length c.loop-at.window.kept = omega (arith, c.loop-at-test.true, c.len.ensures) in
+    let is = in_window c.args.reader.now.context.now c.loop-at.window.kept c.loop-at.window.kept c.loop-at.window.base c.loop-at.window.base c.group_in.result c.loop-at.at c.len-in-loop-at.result
+    c.args.course.range_size c.loop-at.number c.loop-at.joined.end c.args.course.stop c.in_ok-read.read refl refl c.group_in.ensures c.len-in-loop-at.ensures c.in_ok-read.ensures.ok in
+    let behind = read_in_next c.args.reader.now.context.now c.args.course c.requires.some (g.S.Source.left c.args.source.now) c.args.window.now (g.S.Source.left c.loop-at.source) c.loop-at.window c.loop-at.number c.loop-at.at c.loop-at.joined c.loop-at.invariant.0 c.loop-at.invariant.1 there c.in_ok-read.read is c.if-read.false c.append.new.self c.in_ok-append.ensures.ok
+    (behind_front (c.group_in.result.to - 1) c.loop-at.window) c.group_in.result c.group_in.ensures c.len-in-loop-at.ensures refl in
+    let goes_on = c.read_ahead.ensures.moved in (
+      read_more c.args.reader.now.context.now c.args.course c.requires.some (g.S.Source.left c.args.source.now) c.args.window.now (g.S.Source.left c.loop-at.source) (behind_front (c.group_in.result.to - 1) c.loop-at.window) (c.loop-at.number + 1) 1 c.append.new.self behind (g.S.Source.left c.read_ahead.new.source) c.read_ahead.new.window
+          goes_on.moved goes_on.base goes_on.most goes_on.stays,
+      subst (λ n. IsFilled (1 + n) c.read_ahead.new.window) c.group_reach-ahead.ensures c.in_ok-read.ensures.filled,
       omega arith,
-      λ ended. c.fill_to.ensures.at_end (sym (ap (λ (v : WindowView). v.ended) c.drop_front.ensures) ∙ ended),
-      c.fill_to.ensures.held ∙ c.loop-joined.invariant.3,
-      omega (arith, c.fill_to.ensures.count, c.loop-joined.invariant.4),
+      c.read_ahead.ensures.at_end,
+      c.read_ahead.ensures.held ∙ c.loop-at.invariant.4,
+      omega (arith, c.read_ahead.ensures.count, c.loop-at.invariant.5),
     )
+
+pub returns-clause-ok : goal.returns-clause-ok
+returns-clause-ok g c =
+    let over : c.loop-at.at ≡ length c.loop-at.window.kept = omega (arith, c.loop-at-test.false, c.len.ensures, at_within c.args.course.start (group_width c.args.course.range_size) c.loop-at.number c.loop-at.at _ c.loop-at.window c.loop-at.invariant.0.stands) in
+    read_all c.args.reader.now.context.now c.args.course c.requires.some (g.S.Source.left c.args.source.now) c.args.window.now (g.S.Source.left c.loop-at.source) c.loop-at.window c.loop-at.number c.loop-at.at c.loop-at.joined c.loop-at.invariant.0 c.loop-at.invariant.1 over
+
+pub returns-clause-moved : goal.returns-clause-moved
+returns-clause-moved g c = let so_far = c.loop-at.invariant.0 in (so_far.came, so_far.taken, so_far.reached, so_far.most)
+
+pub returns-clause-at_end : goal.returns-clause-at_end
+returns-clause-at_end g c = c.loop-at.invariant.3
+
+pub returns-clause-held : goal.returns-clause-held
+returns-clause-held g c = c.loop-at.invariant.4
+
+pub returns-clause-count : goal.returns-clause-count
+returns-clause-count g c = c.loop-at.invariant.5
