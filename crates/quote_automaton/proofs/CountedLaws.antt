@@ -11,8 +11,8 @@ use Rattle.byte_classes.specs.Dialect.{Marks, IsDialect}
 use Rattle.byte_classes.specs.Masks.{HasBits}
 use Rattle.byte_classes.specs.Special.{is_one_of}
 use Rattle.quote_automaton.specs.declared.state.State.{State}
-use Rattle.quote_automaton.specs.Automaton.{step, state_after}
-use Rattle.quote_automaton.specs.Counted.{IsDoubling, bit_behind, counted, is_misplaced, is_set, toggled}
+use Rattle.quote_automaton.specs.Automaton.{step, state_after, IsDoubling}
+use Rattle.quote_automaton.specs.Counted.{bit_behind, counted, is_misplaced, is_set, toggled}
 use Rattle.quote_automaton.proofs.CountedBits.{bit_is, clear_is, odd_is, set_is}
 use Rattle.quote_automaton.proofs.CountedStep.{counted_step}
 use Rattle.quote_automaton.proofs.Running.{state_step}

@@ -11,8 +11,8 @@ use Rattle.byte_classes.specs.Special.{is_special, is_one_of}
 use Rattle.byte_classes.proofs.ClassLaws.{class_of-quote, class_of-other, is_comment_byte}
 use Rattle.byte_classes.proofs.SpecialLaws.{special_outside}
 use Rattle.quote_automaton.specs.declared.state.State.TheVariants.{Quoted, Broken}
-use Rattle.quote_automaton.specs.Automaton.{doubles_quotes, next, step}
-use Rattle.quote_automaton.specs.Counted.{IsDoubling, counted, is_misplaced, toggled}
+use Rattle.quote_automaton.specs.Automaton.{doubles_quotes, next, step, IsDoubling}
+use Rattle.quote_automaton.specs.Counted.{counted, is_misplaced, toggled}
 
 -- ---- the table
 

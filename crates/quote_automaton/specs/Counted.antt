@@ -1,5 +1,5 @@
 -- Bytes whose state is known by counting quotes, where the quote is its own escape.
-use Rattle.std.specs.Prelude.{◌≡◌, ◌==◌, ℕ, zero, suc, Bool, true, false, not, ◌&&◌, ◌||◌, Some, if◌then◌else◌}
+use Rattle.std.specs.Prelude.{◌==◌, ℕ, zero, suc, Bool, true, false, not, ◌&&◌, ◌||◌, if◌then◌else◌}
 use Rattle.std.specs.Int.{bit_at}
 use Rattle.byte_classes.specs.declared.class.Class.{Class}
 use Rattle.byte_classes.specs.declared.class.Class.TheVariants as class
@@ -8,11 +8,6 @@ use Rattle.byte_classes.specs.Dialect.{Marks}
 use Rattle.quote_automaton.specs.declared.place.Place.{Place}
 use Rattle.quote_automaton.specs.declared.state.State.{State}
 use Rattle.quote_automaton.specs.declared.state.State.TheVariants.{RowStart, FieldStart, Plain, Quoted, QuoteSeen, CrSeen}
-
--- the quote is its own escape
-pub record IsDoubling (d : Marks) (q : ℕ) : Type 0 where
-  pub quote : d.quote ≡ Some q
-  pub escape : d.escape ≡ Some q
 
 -- the state behind a byte of this class, between quotes or not, where no quote is out of its place
 abbrev pub counted : Bool → Class → State

@@ -6,10 +6,11 @@ ghost use Rattle.std.specs.Prelude.{◌≡◌, ◌+◌, ◌≤◌, ◌==◌, ◌
 ghost use Rattle.byte_classes.specs.Dialect.{IsDialect};
 ghost use Rattle.byte_classes.specs.Masks.{HasBits};
 ghost use Rattle.byte_classes.specs.Special.{is_one_of};
-ghost use Rattle.quote_automaton.specs.Automaton.{state_after};
-ghost use Rattle.quote_automaton.specs.Counted.{IsDoubling, state_of};
+ghost use Rattle.quote_automaton.specs.Automaton.{state_after, IsDoubling};
+ghost use Rattle.quote_automaton.specs.Counted.{state_of};
 
-use crate::place::{Place, doubled_quote, place_of, state_of};
+use crate::doubling::doubled_quote;
+use crate::place::{Place, place_of, state_of};
 use crate::quote_bits::{behind, last_bit, misplaced, parities};
 use crate::state::{Reached, State};
 use byte_classes::{Dialect, bytes_at, places_of};

@@ -1,7 +1,8 @@
 //! Places whose state is known by counting quotes.
 ghost use Rattle.std.specs.Prelude.{◌≡◌, IfSome};
 ghost use Rattle.byte_classes.specs.Dialect.{IsDialect};
-ghost use Rattle.quote_automaton.specs.Counted.{IsDoubling, state_of};
+ghost use Rattle.quote_automaton.specs.Automaton.{IsDoubling};
+ghost use Rattle.quote_automaton.specs.Counted.{state_of};
 
 use crate::state::State;
 use byte_classes::{Class, Dialect, class_of};
@@ -15,18 +16,6 @@ pub(crate) struct Place {
 
 /// A byte that has no meaning in any dialect.
 const PLAIN: u8 = 255;
-
-/// The quote, where it is its own escape.
-pub(crate) fn doubled_quote(dialect: &Dialect) -> Option<u8>
-    ensures value { IfSome result (IsDoubling dialect.now) }
-    ensures sound { IsDialect dialect.now }
-{
-    if dialect.quote() == dialect.escape() {
-        dialect.quote()
-    } else {
-        None
-    }
-}
 
 /// The place whose state this is, where counting gives it.
 #[inline(always)]

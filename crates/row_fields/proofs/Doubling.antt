@@ -14,7 +14,8 @@ use Rattle.byte_classes.proofs.ClassLaws.{class_of-quote, class_of-other}
 use Rattle.byte_classes.proofs.SpecialLaws.{special_inside, found_alike}
 use Rattle.row_fields.specs.declared.field.Role.{Role}
 use Rattle.row_fields.specs.declared.field.Role.TheVariants as role
-use Rattle.row_fields.specs.Reading.{HasRole, IsDoubling, role_before}
+use Rattle.quote_automaton.specs.Automaton.{IsDoubling}
+use Rattle.row_fields.specs.Reading.{HasRole, role_before}
 use Rattle.row_fields.proofs.FieldReading.{doubles_quotes-true}
 use Rattle.row_fields.proofs.Roles.{is_last_quote, is_quote_before}
 

@@ -4,26 +4,14 @@ ghost use Rattle.std.specs.Prelude.{◌≡◌, ◌+◌, ◌<◌, ◌≤◌, ◌=
 ghost use Rattle.byte_classes.specs.Class.{class_of};
 ghost use Rattle.byte_classes.specs.Dialect.{IsDialect};
 ghost use Rattle.byte_classes.specs.Special.{is_special};
-ghost use Rattle.row_fields.specs.Reading.{ReadsField, IsAppended, IsDoubled, IsDoubling};
+ghost use Rattle.quote_automaton.specs.Automaton.{IsDoubled, IsDoubling};
+ghost use Rattle.row_fields.specs.Reading.{ReadsField, IsAppended};
 
 use crate::append::append;
 use crate::field::{Ending, FieldEnd};
 use crate::search::next_line_end;
 use byte_classes::{Dialect, next_byte};
 use csv_source::NoMemory;
-
-/// The quote, where it is its own escape.
-#[inline(always)]
-pub fn doubled_quote(dialect: &Dialect) -> Option<u8>
-    ensures value { IsDoubled dialect.now result }
-    ensures sound { IsDialect dialect.now }
-{
-    if dialect.quote() == dialect.escape() {
-        dialect.quote()
-    } else {
-        None
-    }
-}
 
 /// Whether the quote stands behind a place, too.
 #[inline(always)]

@@ -6,7 +6,8 @@ use Rattle.byte_classes.specs.Dialect.{Marks}
 use Rattle.byte_classes.specs.Special.{is_special}
 use Rattle.byte_classes.specs.declared.class.Class.TheVariants as class
 use Rattle.row_fields.specs.Fields.{unescaped}
-use Rattle.row_fields.specs.Reading.{HasRole, IsDoubling}
+use Rattle.quote_automaton.specs.Automaton.{IsDoubling}
+use Rattle.row_fields.specs.Reading.{HasRole}
 use Rattle.row_fields.specs.declared.field.Role.TheVariants as role
 use Rattle.row_fields.proofs.Doubling.{found_quote, is_quote, doubled_role, closing_role, breaking_role}
 use Rattle.row_fields.proofs.QuotedReading.{ReadInside, opens, goes_on, closes, breaks, run_stands}
