@@ -12,7 +12,6 @@ use Rattle.byte_classes.specs.Places.{first_place}
 use Rattle.byte_classes.specs.Special.{is_special, next_special}
 use Rattle.byte_classes.proofs.ClassLaws.{class_of-quote, class_of-other}
 use Rattle.byte_classes.proofs.SpecialLaws.{special_inside, found_alike}
-use Rattle.row_fields.specs.declared.field.Role.{Role}
 use Rattle.row_fields.specs.declared.field.Role.TheVariants as role
 use Rattle.quote_automaton.specs.Automaton.{IsDoubling}
 use Rattle.row_fields.specs.Reading.{HasRole, role_before}

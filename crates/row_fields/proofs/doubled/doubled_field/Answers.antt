@@ -1,9 +1,8 @@
 use Rattle.std.proofs.Common.{◌≡◌, ℕ, ◌+◌, ◌-◌, ◌<◌, ◌≤◌, ◌||◌, cond, Bool, true, false, List, [], ◌++◌, length, get_or, refl, arith, sym, ap, subst, ◌∙◌, Vec, Global, rules}
-use Rattle.std.specs.Prelude.{◌==◌, Some, slice_range}
+use Rattle.std.specs.Prelude.{Some, slice_range}
 use Rattle.std.proofs.lemmas.List.{append-nil}
 use Rattle.byte_classes.specs.Class.{class_of}
 use Rattle.byte_classes.specs.Dialect.{Marks}
-use Rattle.byte_classes.specs.Special.{is_special}
 use Rattle.byte_classes.specs.declared.class.Class.TheVariants as class
 use Rattle.row_fields.specs.Fields.{unescaped}
 use Rattle.quote_automaton.specs.Automaton.{IsDoubling}
