@@ -184,6 +184,8 @@ def check_reading_of_pipe() -> None:
     assert b"rows|500000\nerrors|0|0\n" in text, f"{' '.join(words)}: {text!r}"
     assert "csvload: 4 MB read" in lines, f"{' '.join(words)}: {lines}"
     same(lines[-1], "csvload: 5 MB read", words)
+    _, lines = run_on_terminal(words, b"", [(data[:10], SILENCE), (data[10:20], 0)])
+    same(set(lines), {"csvload: 0 MB read"}, words)
 
 
 def check_reading_of_file() -> None:

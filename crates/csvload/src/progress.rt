@@ -30,11 +30,12 @@ struct ProgressLine<'a, R> {
 
 /// How much was read, of how much where the file tells its size, which a pipe doesn't.
 fn progress_text(alloc: Global, read: u64, size: u64) -> Result<String, NoMemory> {
+    let is_told = 0 < size && read <= size;
     let (read, size) = (read / MEGABYTE, size / MEGABYTE);
-    let text = if size < read {
-        format!(in alloc; "csvload: {read} MB read")?
-    } else {
+    let text = if is_told {
         format!(in alloc; "csvload: {read} of {size} MB read")?
+    } else {
+        format!(in alloc; "csvload: {read} MB read")?
     };
     Ok(text)
 }
@@ -90,8 +91,8 @@ impl<'a, R: Clock + Eprint + Files + AllocGlobal> ProgressLine<'a, R> {
     }
 }
 
-/// Files, and a line that shows how much of the open one was read. One window is scanned before the next is read, so what
-/// was scanned is at most a window behind.
+/// Files, and a line that shows how much of the open one was read. No more than the window behind the scanned one is read
+/// ahead, so what was scanned is at most two windows behind.
 #[derive(Drop)]
 pub struct ProgressSource<'a, R, S> {
     files: S,
