@@ -92,7 +92,8 @@ impl<'a, R: Clock + Eprint + Files + AllocGlobal> ProgressLine<'a, R> {
 }
 
 /// Files, and a line that shows how much of the open one was read. No more than the window behind the scanned one is read
-/// ahead, so what was scanned is at most two windows behind.
+/// ahead, so what was scanned is at most two windows behind; with `pipeline=true`, whose reading waits for no scan, it may be
+/// further.
 #[derive(Drop)]
 pub struct ProgressSource<'a, R, S> {
     files: S,
