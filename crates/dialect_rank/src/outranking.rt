@@ -11,7 +11,7 @@ use crate::best_place::{is_above, is_table, is_well_quoted};
 use crate::ranked::{Ranked, rank};
 use crate::sampling::Walk;
 use crate::scores::Score;
-use byte_classes::Dialect;
+use byte_classes::{Dialect, next_byte};
 use csv_source::NoMemory;
 use row_fields::Fields;
 use std::alloc::Global;
@@ -28,7 +28,7 @@ fn may_quote(dialect: &Dialect, sample: &[u8]) -> bool
     ensures { result ≡ false → All (λ b. is_quote dialect.now b ≡ false) sample.now }
 {
     match dialect.quote() {
-        Some(quote) => sample.contains(&quote),
+        Some(quote) => next_byte(quote, sample, 0) < sample.len(),
         None => false,
     }
 }
