@@ -37,19 +37,33 @@ const NUMBERS: [Text; 9] = [
     Text("7\t", None),
 ];
 
-const TIMES: [Text; 3] = [
+const TIMES: [Text; 12] = [
     Text("10:00:00.5", Some(Value::Time(36_000_500_000))),
+    Text("10:00:00.123", Some(Value::Time(36_000_123_000))),
+    Text("10:00:00.12345", Some(Value::Time(36_000_123_450))),
+    Text("10:00:00.123456", Some(Value::Time(36_000_123_456))),
+    Text("10:00:00.000001", Some(Value::Time(36_000_000_001))),
+    Text("10:00:00./23456", None),
+    Text("10:00:00.12345:", None),
+    Text("10:00:00.1:", None),
+    Text("10:00:00./2345", None),
+    Text("10:00:00.1234567", None),
     Text("23:59:60", None),
     Text("10:00:00.", None),
 ];
 
-const STAMPS: [Text; 3] = [
+const STAMPS: [Text; 4] = [
+    Text("1970-01-02 00:00:00.999999", Some(Value::Stamp(86_400_999_999))),
     Text("1970-01-02T00:00:01", Some(Value::Stamp(86_401_000_000))),
     Text("1970-01-02", Some(Value::Stamp(86_400_000_000))),
     Text("2020-01-02T10:30", None),
 ];
 
-const DATES: [Text; 23] = [
+const DATES: [Text; 27] = [
+    Text("0000-01-01", None),
+    Text("2024-00-01", None),
+    Text("2024-01-00", None),
+    Text("2024-02-30", None),
     Text("2024-02-29", Some(Value::Date(19_782))),
     Text("2000-02-29", Some(Value::Date(11_016))),
     Text("0001-01-01", Some(Value::Date(-719_162))),
