@@ -53,7 +53,10 @@ const TIMES: [Text; 12] = [
 ];
 
 const STAMPS: [Text; 4] = [
-    Text("1970-01-02 00:00:00.999999", Some(Value::Stamp(86_400_999_999))),
+    Text(
+        "1970-01-02 00:00:00.999999",
+        Some(Value::Stamp(86_400_999_999)),
+    ),
     Text("1970-01-02T00:00:01", Some(Value::Stamp(86_401_000_000))),
     Text("1970-01-02", Some(Value::Stamp(86_400_000_000))),
     Text("2020-01-02T10:30", None),
