@@ -52,6 +52,8 @@ const FAULTY_ROW: &[u8] = b"options|delim=,|quote=\"|escape=\"|newline=\\n|skip=
 column|0|BIGINT|column0\n\
 error|0|0|1|1|1|1|column0|CAST|x|Error when converting column \"column0\". Could not convert string \"x\" to 'BIGINT'\n";
 
+// A group has 64 ranges, so 1 MiB: the next group is read beside the scan of the first, and the groups behind that one only
+// when the scan has ended. So a range is scanned before the last read, however the threads take turns.
 const LOAD_FAULTY: &[&str] = &[
     "load",
     "f.csv",
@@ -61,7 +63,7 @@ const LOAD_FAULTY: &[&str] = &[
     "header=false",
     "types=BIGINT",
     "sample_size=1",
-    "range_size=65536",
+    "range_size=16384",
     "max_line_size=1000",
 ];
 
@@ -127,7 +129,7 @@ const LOAD_LIMITED: &[&str] = &[
     "header=false",
     "types=BIGINT",
     "sample_size=1",
-    "range_size=65536",
+    "range_size=16384",
     "max_line_size=1000",
     "max_input=4999998",
 ];
