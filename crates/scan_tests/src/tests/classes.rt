@@ -95,6 +95,8 @@ const FOUND: Masks = Masks {
     delim: 2,
     quote: 20,
     escape: 0,
+    outside: 34,
+    inside: 20,
 };
 
 #[test]
@@ -147,19 +149,27 @@ fn each_class_is_found_at_each_place(rt: HostRuntime) {
 
 /// Whether each mask of a block has the bits of the bytes of its class.
 fn has_masks(dialect: &Dialect, block: &[u8; 64]) -> bool {
-    let mut wanted = [0u64; 4];
+    let mut wanted = Masks {
+        line_end: 0,
+        delim: 0,
+        quote: 0,
+        escape: 0,
+        outside: 0,
+        inside: 0,
+    };
     for (at, byte) in block.iter().enumerate() {
         let bit = 1u64.wrapping_shl(at as u32);
         match class_of(dialect, *byte) {
-            Class::Lf | Class::Cr => wanted[0] |= bit,
-            Class::Delim => wanted[1] |= bit,
-            Class::Quote => wanted[2] |= bit,
-            Class::Escape => wanted[3] |= bit,
+            Class::Lf | Class::Cr => wanted.line_end |= bit,
+            Class::Delim => wanted.delim |= bit,
+            Class::Quote => wanted.quote |= bit,
+            Class::Escape => wanted.escape |= bit,
             Class::Comment | Class::Other => {}
         }
     }
-    let found = masks(dialect, block);
-    [found.line_end, found.delim, found.quote, found.escape] == wanted
+    wanted.outside = wanted.line_end | wanted.delim;
+    wanted.inside = wanted.quote | wanted.escape;
+    masks(dialect, block) == wanted
 }
 
 #[test]
