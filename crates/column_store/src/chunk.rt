@@ -1,5 +1,5 @@
 // A chunk of rows.
-ghost use Rattle.std.specs.Prelude.{◌≡◌, ◌≤◌, ◌<◌, ◌+◌, ◌-◌, ◌++◌, ◌∷◌, ◌^◌, [], is_some, length, take, IfOk, IsTrue, OnErr, OnOk, Some};
+ghost use Rattle.std.specs.Prelude.{◌≡◌, ◌≤◌, ◌<◌, ◌+◌, ◌-◌, ◌++◌, ◌∷◌, ◌^◌, [], is_some, length, slice_range, take, IfOk, IsTrue, OnErr, OnOk, Some};
 ghost use Rattle.std.specs.Option.{option_to_list};
 ghost use Rattle.value_types.specs.Datum.{datum_of};
 ghost use Rattle.value_types.specs.OfType.{fit_all};
@@ -102,17 +102,18 @@ impl Chunk {
         Ok(())
     }
 
-    /// Appends the cell that a text spells as the type of the next column to the row under way, and answers whether it
-    /// spells one. Where it spells none, nothing is appended.
+    /// Appends the cell that the text between two places spells as the type of the next column to the row under way,
+    /// and answers whether it spells one. Where it spells none, nothing is appended.
     #[inline(always)]
-    pub fn push_spelled(&mut self, text: &[u8]) -> Result<bool, NoMemory>
-        requires { length self.old.unfinished < length self.old.types }
-        ensures value { IfOk result (λ spelled. spelled ≡ is_some (spelled_cell self.old text.now)) }
-        ensures ok { OnOk result (self.new ≡ record self.old { unfinished = self.old.unfinished ++ option_to_list (spelled_cell self.old text.now) }) }
+    pub fn push_spelled(&mut self, bytes: &[u8], from: usize, end: usize) -> Result<bool, NoMemory>
+        requires next { length self.old.unfinished < length self.old.types }
+        requires within { (from ≤ end) × (end ≤ length bytes.now) }
+        ensures value { IfOk result (λ spelled. spelled ≡ is_some (spelled_cell self.old (slice_range bytes.now from end))) }
+        ensures ok { OnOk result (self.new ≡ record self.old { unfinished = self.old.unfinished ++ option_to_list (spelled_cell self.old (slice_range bytes.now from end)) }) }
         ensures err { OnErr result (self.new ≡ self.old) }
     {
         let roomy = self.spare > 0;
-        if self.columns[self.begun].push_spelled(text, roomy)? {
+        if self.columns[self.begun].push_spelled(bytes, from, end, roomy)? {
             self.begun += 1;
             return Ok(true);
         }

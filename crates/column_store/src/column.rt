@@ -1,5 +1,5 @@
 // A column of one type.
-ghost use Rattle.std.specs.Prelude.{◌≡◌, ◌≢◌, ◌≤◌, ◌<◌, ◌+◌, ◌++◌, ◌∷◌, [], true, is_some, length, slice_get, take, IfOk, IsTrue, Some, OnErr, OnOk};
+ghost use Rattle.std.specs.Prelude.{◌≡◌, ◌≢◌, ◌≤◌, ◌<◌, ◌+◌, ◌++◌, ◌∷◌, [], true, is_some, length, slice_get, slice_range, take, IfOk, IsTrue, Some, OnErr, OnOk};
 ghost use Rattle.std.specs.Option.{option_to_list};
 ghost use Rattle.value_types.specs.declared.types.ColumnType.TheVariants.{Varchar as varchar};
 ghost use Rattle.value_types.specs.Datum.{datum_of};
@@ -12,7 +12,7 @@ use crate::unwrapping::{boolean_in, date_in, number_in, stamp_in, text_in, time_
 use csv_source::NoMemory;
 use std::alloc::Global;
 use value_types::{
-    Cell, ColumnType, Value, cast_bigint, cast_boolean, cast_date, cast_time, cast_timestamp,
+    Cell, ColumnType, Value, cast_bigint_in, cast_boolean, cast_date, cast_time, cast_timestamp,
 };
 
 /// A column: its values in vectors of their type's width.
@@ -94,21 +94,29 @@ impl Column {
         }
     }
 
-    /// Appends the cell that a text spells as the type, and answers whether it spells one. `roomy` says that there is
-    /// room for a cell more. A value is cast and pushed in one match: no cell is made on the way, and no type is looked
-    /// up again.
+    /// Appends the cell that the text between two places spells as the type, and answers whether it spells one. `roomy`
+    /// says that there is room for a cell more. A value is cast and pushed in one match: no cell is made on the way, and
+    /// no type is looked up again.
     #[inline(always)]
-    pub(crate) fn push_spelled(&mut self, text: &[u8], roomy: bool) -> Result<bool, NoMemory>
-        requires { roomy ≡ true → length (cells_of self.old) < room_of self.old }
+    pub(crate) fn push_spelled(
+        &mut self,
+        bytes: &[u8],
+        from: usize,
+        end: usize,
+        roomy: bool,
+    ) -> Result<bool, NoMemory>
+        requires room { roomy ≡ true → length (cells_of self.old) < room_of self.old }
+        requires within { (from ≤ end) × (end ≤ length bytes.now) }
         ensures ty { type_of self.new ≡ type_of self.old }
-        ensures value { IfOk result (λ spelled. spelled ≡ is_some (typed_cell text.now (type_of self.old))) }
-        ensures ok { OnOk result (cells_of self.new ≡ cells_of self.old ++ option_to_list (typed_cell text.now (type_of self.old))) }
+        ensures value { IfOk result (λ spelled. spelled ≡ is_some (typed_cell (slice_range bytes.now from end) (type_of self.old))) }
+        ensures ok { OnOk result (cells_of self.new ≡ cells_of self.old ++ option_to_list (typed_cell (slice_range bytes.now from end) (type_of self.old))) }
         ensures err { OnErr result (cells_of self.new ≡ cells_of self.old) }
         ensures room { room_of self.old ≤ room_of self.new }
     {
+        let text = &bytes[from..end];
         match self {
             Column::Boolean(column) => column.push_some(cast_boolean(text), roomy),
-            Column::Bigint(column) => column.push_some(cast_bigint(text), roomy),
+            Column::Bigint(column) => column.push_some(cast_bigint_in(bytes, from, end), roomy),
             Column::Date(column) => column.push_some(cast_date(text), roomy),
             Column::Time(column) => column.push_some(cast_time(text), roomy),
             Column::Timestamp(column) => column.push_some(cast_timestamp(text), roomy),

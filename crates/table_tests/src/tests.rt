@@ -1,6 +1,7 @@
 mod cells;
 mod files;
 mod lists;
+mod numbers;
 mod report;
 mod sources;
 mod store;

@@ -141,7 +141,7 @@ fn spells(alloc: Global, ty: ColumnType, text: &[u8]) -> Result<bool, NoMemory> 
     let mut types = Types::new(alloc);
     types.push(ty)?;
     let mut chunk = Chunk::new(alloc, &types)?;
-    chunk.push_spelled(text)
+    chunk.push_spelled(text, 0, text.len())
 }
 
 /// A column's type, a text, and whether it can be cast.

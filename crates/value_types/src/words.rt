@@ -1,0 +1,94 @@
+// Up to eight digits at once, in a word of eight bytes of which the first counts least.
+ghost use Rattle.std.specs.Prelude.{◌≡◌, ◌≤◌, ◌<◌, ◌+◌, ◌-◌, ◌++◌, List, ℕ, true, length, map, replicate, slice_range, IfSome, Some};
+ghost use Rattle.std.specs.List.{list_all};
+ghost use Rattle.value_types.specs.Digits.{natural_of};
+ghost use Rattle.value_types.specs.Words.{BeginsWord, IsWord, is_worth_of_digit, spelled, word_of, worth};
+
+/// The eight bytes from a place on.
+#[inline(always)]
+fn word_at(bytes: &[u8], from: usize) -> u64
+    requires { from + 8 ≤ length bytes.now }
+    ensures { result ≡ word_of (slice_range bytes.now from (from + 8)) }
+{
+    u64::from_le_bytes([
+        bytes[from],
+        bytes[from + 1],
+        bytes[from + 2],
+        bytes[from + 3],
+        bytes[from + 4],
+        bytes[from + 5],
+        bytes[from + 6],
+        bytes[from + 7],
+    ])
+}
+
+/// A word that begins with the text of one to eight bytes between two places, where there are bytes enough behind or
+/// before it.
+#[inline(always)]
+fn word_of_text(bytes: &[u8], from: usize, end: usize) -> Option<u64>
+    requires within { (from < end) × (end ≤ length bytes.now) }
+    requires few { end ≤ from + 8 }
+    ensures { IfSome result (BeginsWord (slice_range bytes.now from end)) }
+{
+    if bytes.len() - from >= 8 {
+        return Some(word_at(bytes, from));
+    }
+    if end < 8 {
+        return None;
+    }
+    Some(word_at(bytes, end - 8) >> (8 * (8 - (end - from))))
+}
+
+/// What the text at the front of a word is worth as digits, behind as many zeros as make it a word again.
+#[inline(always)]
+fn worths(word: u64, count: usize) -> u64
+    requires few { (0 < count) × (count ≤ 8) }
+    ensures { (text : List ℕ) → length text ≡ count → BeginsWord text word → result ≡ word_of (replicate (8 - count) 0 ++ map worth text) }
+{
+    (word ^ 0x3030_3030_3030_3030) << (8 * (8 - count))
+}
+
+/// Whether each byte of a word is worth less than ten.
+#[inline(always)]
+fn are_digits(word: u64) -> bool
+    ensures { (worths : List ℕ) → IsWord worths → word ≡ word_of worths → result ≡ list_all is_worth_of_digit worths }
+{
+    // A half byte of ten or more gets a bit of the upper half by six more.
+    let carried = (word & 0x0F0F_0F0F_0F0F_0F0F) + 0x0606_0606_0606_0606;
+    (carried | word) & 0xF0F0_F0F0_F0F0_F0F0 == 0
+}
+
+/// The number that a word of digits' worths spells: pairs of digits first, then fours, then all eight.
+#[inline(always)]
+fn number(word: u64) -> u64
+    ensures { (worths : List ℕ) → IsWord worths → list_all is_worth_of_digit worths ≡ true → word ≡ word_of worths → result ≡ spelled worths }
+{
+    let pairs = (word & 0x00FF_00FF_00FF_00FF) * 10 + (word >> 8 & 0x00FF_00FF_00FF_00FF);
+    let fours = (pairs & 0x0000_FFFF_0000_FFFF) * 100 + (pairs >> 16 & 0x0000_FFFF_0000_FFFF);
+    (fours & 0xFFFF_FFFF) * 10_000 + (fours >> 32)
+}
+
+/// The number that the text at the front of a word spells.
+#[inline(always)]
+fn natural(word: u64, count: usize) -> Option<u64>
+    requires few { (0 < count) × (count ≤ 8) }
+    ensures value { (text : List ℕ) → length text ≡ count → BeginsWord text word → result ≡ natural_of text }
+    ensures small { (text : List ℕ) → length text ≡ count → BeginsWord text word → IfSome result (λ number. number < 100_000_000) }
+{
+    let digits = worths(word, count);
+    if are_digits(digits) {
+        Some(number(digits))
+    } else {
+        None
+    }
+}
+
+/// The number that one to eight digits between two places spell; none also where no word can hold them.
+#[inline(always)]
+pub(crate) fn few_digits_in(bytes: &[u8], from: usize, end: usize) -> Option<u64>
+    requires within { (from < end) × (end ≤ length bytes.now) }
+    requires few { end ≤ from + 8 }
+    ensures { IfSome result (λ number. (natural_of (slice_range bytes.now from end) ≡ Some number) × (number < 100_000_000)) }
+{
+    natural(word_of_text(bytes, from, end)?, end - from)
+}
