@@ -23,7 +23,7 @@ use Rattle.column_store.proofs.Rows.{joined_rows, rows_same, maps_same, rows_of-
 -- as many cells as there are fit
 pub cells_fit : (column : Column) → length (cells_of column) ≤ room_of column
 cells_fit (columns.Boolean c) = simp length-map (omega (arith, length-options c.nulls.items c.values.items, c.roomy))
-cells_fit (columns.Bigint c) = simp length-map (omega (arith, length-options c.nulls.items c.values.items, c.roomy))
+cells_fit (columns.Bigint c) = let n = c.numbers in simp length-map (omega (arith, length-options n.nulls.items n.values.items, n.roomy))
 cells_fit (columns.Date c) = simp length-map (omega (arith, length-options c.nulls.items c.values.items, c.roomy))
 cells_fit (columns.Time c) = simp length-map (omega (arith, length-options c.nulls.items c.values.items, c.roomy))
 cells_fit (columns.Timestamp c) = simp length-map (omega (arith, length-options c.nulls.items c.values.items, c.roomy))

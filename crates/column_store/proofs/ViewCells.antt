@@ -7,10 +7,11 @@ use Rattle.std.proofs.lemmas.List.Elements.{All-nil, All-cons, All-head, All-tai
 use Rattle.value_types.specs.Datum.{Datum, null}
 use Rattle.value_types.specs.declared.views.ColumnView.{ColumnView}
 use Rattle.value_types.specs.declared.views.ColumnView.TheVariants as views
-use Rattle.value_types.specs.Views.{marked, view_cells, view_rows, HasRows}
+use Rattle.value_types.specs.Marked.{marked}
+use Rattle.value_types.specs.Views.{view_cells, view_rows, HasRows}
 use Rattle.column_store.specs.declared.column.Column.{Column}
-use Rattle.column_store.specs.Nullable.{options_of}
-use Rattle.column_store.specs.ColumnCells.{cells_of, datum_by}
+use Rattle.column_store.specs.Nullable.{datum_by, options_of}
+use Rattle.column_store.specs.ColumnCells.{cells_of}
 use Rattle.column_store.specs.RowsOfColumns.{rows_of}
 use Rattle.column_store.specs.IsFilled.{IsFilled}
 use Rattle.column_store.proofs.Options.{length-options}
@@ -22,7 +23,7 @@ module _ {A : Type 0} (cell : A → Datum) where
   one false value = refl
 
   -- marks and values are the cells
-  marked_are : (nulls : List Bool) (values : List A) → marked cell nulls values ≡ map (datum_by cell) (options_of nulls values)
+  pub marked_are : (nulls : List Bool) (values : List A) → marked cell nulls values ≡ map (datum_by cell) (options_of nulls values)
   marked_are nulls [] = refl
   marked_are [] (v ∷ values) = ap (λ cells. cell v ∷ cells) (marked_are [] values)
   marked_are (n ∷ nulls) (v ∷ values) = λ i. one n v i ∷ marked_are nulls values i
@@ -59,7 +60,7 @@ all_views columns n now past is = is ∙ ap (map cells_of) (take_all n columns p
 
 fewer : (n m : ℕ) (view : ColumnView) → n ≤ m → HasRows m view → HasRows n view
 fewer n m (views.Boolean nulls column) less long = omega (arith, less, long)
-fewer n m (views.Bigint nulls column) less long = omega (arith, less, long)
+fewer n m (views.Bigint column) less long = omega (arith, less, long)
 fewer n m (views.Date nulls column) less long = omega (arith, less, long)
 fewer n m (views.Time nulls column) less long = omega (arith, less, long)
 fewer n m (views.Timestamp nulls column) less long = omega (arith, less, long)

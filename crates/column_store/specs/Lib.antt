@@ -1,5 +1,6 @@
 pub mod TableView
 pub mod Nullable
+pub mod Measured
 pub mod ColumnCells
 pub mod RowsOfColumns
 pub mod ChunkView

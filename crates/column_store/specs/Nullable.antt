@@ -1,5 +1,6 @@
 -- Values and, beside each, whether it is null.
 use Rattle.std.specs.Prelude.{ℕ, Bool, if◌then◌else◌, List, [], ◌∷◌, Option, Some, None, min, vec_capacity}
+use Rattle.value_types.specs.Datum.{Datum, null}
 use Rattle.column_store.specs.declared.nullable.Nullable.{Nullable}
 use Rattle.column_store.specs.declared.nullable_texts.NullableTexts.{NullableTexts}
 
@@ -18,3 +19,8 @@ texts_or_null column = options_of column.nulls.items column.texts
 -- how many values fit into the memory that it has
 abbrev pub room : {A : Type 0} → Nullable A → ℕ
 room column = min (vec_capacity column.nulls) (vec_capacity column.values)
+
+-- a cell that may be null
+abbrev pub datum_by : {A : Type 0} → (A → Datum) → Option A → Datum
+datum_by make None = null
+datum_by make (Some value) = make value

@@ -7,6 +7,7 @@ ghost use Rattle.column_store.specs.NextCell.{spelled_cell};
 ghost use Rattle.column_store.specs.RowsOfColumns.{FitsColumn, HasNoTexts};
 ghost use Rattle.column_store.specs.TableView.{cell_of};
 
+mod measuring;
 mod views;
 mod whole_rows;
 

@@ -6,6 +6,7 @@ ghost use Rattle.value_types.specs.Datum.{datum_of};
 ghost use Rattle.value_types.specs.OfType.{fits, typed_cell};
 ghost use Rattle.column_store.specs.ColumnCells.{cells_of, room_of, type_of};
 
+use crate::bigints::Bigints;
 use crate::nullable::Nullable;
 use crate::nullable_texts::NullableTexts;
 use crate::unwrapping::{boolean_in, date_in, number_in, stamp_in, text_in, time_in};
@@ -19,7 +20,7 @@ use value_types::{
 #[derive(Drop)]
 pub(crate) enum Column {
     Boolean(Nullable<bool>),
-    Bigint(Nullable<i64>),
+    Bigint(Bigints),
     Date(Nullable<i32>),
     Time(Nullable<i64>),
     Timestamp(Nullable<i64>),
@@ -34,7 +35,7 @@ impl Column {
     {
         match ty {
             ColumnType::Boolean => Column::Boolean(Nullable::new(alloc)),
-            ColumnType::Bigint => Column::Bigint(Nullable::new(alloc)),
+            ColumnType::Bigint => Column::Bigint(Bigints::new(alloc)),
             ColumnType::Date => Column::Date(Nullable::new(alloc)),
             ColumnType::Time => Column::Time(Nullable::new(alloc)),
             ColumnType::Timestamp => Column::Timestamp(Nullable::new(alloc)),
@@ -195,6 +196,17 @@ impl Column {
             Column::Time(column) => column.truncate(count),
             Column::Timestamp(column) => column.truncate(count),
             Column::Varchar(column) => column.truncate(count),
+        }
+    }
+
+    /// Takes the extent of a BIGINT column.
+    pub(crate) fn measure(&mut self)
+        ensures ty { type_of self.new ≡ type_of self.old }
+        ensures value { cells_of self.new ≡ cells_of self.old }
+        ensures room { room_of self.new ≡ room_of self.old }
+    {
+        if let Column::Bigint(column) = self {
+            column.measure();
         }
     }
 }

@@ -29,6 +29,15 @@ pub(crate) fn cut(columns: &mut [Column], rows: usize)
     }
 }
 
+/// Takes the extent of each BIGINT column.
+pub(crate) fn measure(columns: &mut [Column])
+    ensures { EachColumn (λ _. KeepsCells) columns.old columns.new }
+{
+    for place in 0..columns.len() {
+        columns[place].measure();
+    }
+}
+
 /// Makes room for more cells in each column.
 pub(crate) fn reserve(columns: &mut [Column], more: usize) -> Result<(), NoMemory>
     ensures same { EachColumn (λ _. KeepsCells) columns.old columns.new }

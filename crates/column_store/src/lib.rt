@@ -1,12 +1,14 @@
 //! The loaded table: typed columns in chunks.
 //!
 //! A column keeps its values in one vector of its type's width, and marks that say which of the first ones are null: a
-//! column without nulls has no mark. Texts stand one behind another in one buffer. A chunk is some rows in columns of
+//! column without nulls has no mark. Texts stand one behind another in one buffer. A BIGINT column also keeps the extent
+//! of its numbers, which a table takes of the chunk that it is made of. A chunk is some rows in columns of
 //! their own, to which a row is appended cell by cell and finished, or taken back. A table is a list of chunks, so that
 //! tables are joined without a copy, and a row's chunk is found by the rows before it. Contracts see a table as its
 //! types, its rows of cells, and the number of rows that can be appended without memory.
 #![tactic(auto)]
 
+mod bigints;
 mod chunk;
 mod column;
 mod columns;

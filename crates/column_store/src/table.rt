@@ -47,11 +47,12 @@ impl Table {
         })
     }
 
-    /// The table of a chunk's rows, without a copy.
-    pub fn from_chunk(alloc: Global, chunk: Chunk) -> Table
+    /// The table of a chunk's rows, without a copy. Its extents are taken here, by the thread that has just filled it.
+    pub fn from_chunk(alloc: Global, mut chunk: Chunk) -> Table
         requires { chunk.unfinished ≡ [] }
         ensures { result ≡ record { types = chunk.types; rows = chunk.rows; spare = chunk.spare } }
     {
+        chunk.measure();
         // Its rows and the spare ones can be counted together.
         let _ = chunk.spare();
         Table {

@@ -5,7 +5,7 @@ ghost use Rattle.value_types.specs.declared.types.ColumnType.TheVariants as type
 ghost use Rattle.value_types.specs.declared.types.Value.TheVariants as values;
 ghost use Rattle.value_types.specs.Datum.{datum_of, text as text_datum, typed};
 ghost use Rattle.value_types.specs.OfType.{fits};
-ghost use Rattle.column_store.specs.ColumnCells.{datum_by};
+ghost use Rattle.column_store.specs.Nullable.{datum_by};
 
 use value_types::{Cell, Value};
 

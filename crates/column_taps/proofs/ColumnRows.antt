@@ -1,22 +1,24 @@
 -- Rows of columns, taken in column by column.
-use Rattle.std.proofs.Common.{◌≡◌, ◌≢◌, ℤ, Bor, ℕ, zero, suc, ◌+◌, ◌*◌, ◌<◌, ◌≤◌, Bool, true, false, List, [], ◌∷◌, Option, Some, None, length, take, drop, map, get_or, refl, sym, ap, ◌∙◌, add-one, arith}
-use Rattle.std.specs.Prelude.{All, slice_get, count_by, sum_by, if◌then◌else◌}
-use Rattle.std.specs.Int.{int_min, int_max}
+use Rattle.std.proofs.Common.{◌≡◌, ◌≢◌, Bor, ℕ, zero, suc, ◌+◌, ◌*◌, ◌≤◌, Bool, true, false, List, [], ◌∷◌, Option, None, length, take, map, get_or, refl, sym, ap, ◌∙◌, arith}
+use Rattle.std.specs.Prelude.{All, count_by, sum_by, if◌then◌else◌}
 use Rattle.std.specs.List.{fold, range_with_len}
 use Rattle.std.proofs.lemmas.List.{get_or-take, length-take, length-take-le}
 use Rattle.std.proofs.lemmas.List.Elements.{All-head, All-tail, All-weaker}
 use Rattle.std.proofs.lemmas.List.FromFn.{fill_by_all}
-use Rattle.std.proofs.lemmas.Option.{get_or_from_slice_get}
-use Rattle.std.proofs.lemmas.List.Sums.{sum_by-cons, fold_more, count_by-le-length}
+use Rattle.std.proofs.lemmas.List.Sums.{sum_by-cons, count_by-le-length}
 use Rattle.value_types.specs.Datum.{Datum, null, typed, text}
 use Rattle.value_types.specs.declared.types.Value.TheVariants as values
+use Rattle.value_types.specs.declared.bigint_view.BigintView.{BigintView}
 use Rattle.value_types.specs.declared.views.ColumnView.{ColumnView}
 use Rattle.value_types.specs.declared.views.ColumnView.TheVariants as views
-use Rattle.value_types.specs.Views.{marked, row_at, view_cells, view_rows, nulls_in, HasRows}
-use Rattle.column_taps.specs.declared.span.Extent.{Extent}
+use Rattle.value_types.specs.Extent.{extent_with}
+use Rattle.value_types.specs.Marked.{marked}
+use Rattle.value_types.specs.Views.{row_at, view_cells, view_rows, nulls_in, HasRows}
+use Rattle.value_types.specs.declared.extent.Extent.{Extent}
 use Rattle.column_taps.specs.declared.width.Width.{Width}
-use Rattle.column_taps.specs.Seen.{counted, spanned, measured, by_column, extent_with, width_with, is_filled}
+use Rattle.column_taps.specs.Seen.{counted, spanned, measured, by_column, width_with, is_filled}
 use Rattle.column_taps.specs.Shown.{one_row_more, shown_rows}
+use Rattle.value_types.proofs.MarkedSteps.{marked_long}
 use Rattle.column_taps.proofs.ShownSteps.{many}
 
 -- ---- the cells of a column
@@ -26,23 +28,6 @@ no_marks zero = refl
 no_marks (suc n) = refl
 
 module _ {A : Type 0} (cell : A → Datum) where
-  marked_long : (n : ℕ) (nulls : List Bool) (values : List A) → n ≤ length values → n ≤ length (marked cell nulls values)
-  marked_long zero nulls values all = omega arith
-  marked_long (suc n) nulls [] all = absurd (let no : ⊥ = omega (arith, all) in no)
-  marked_long (suc n) [] (v ∷ values) all = let rest = marked_long n [] values (omega (arith, all)) in omega (arith, rest)
-  marked_long (suc n) (b ∷ nulls) (v ∷ values) all = let rest = marked_long n nulls values (omega (arith, all)) in omega (arith, rest)
-
-  pub marked_next : (nulls : List Bool) (values : List A) (k : ℕ) (d : Datum) (v : A) → k < length values
-      → get_or (marked cell nulls values) k d ≡ (if get_or nulls k false then null else cell (get_or values k v))
-  marked_next nulls [] k d v all = absurd (let no : ⊥ = omega (arith, all) in no)
-  marked_next [] (w ∷ values) zero d v all = refl
-  marked_next [] (w ∷ values) (suc k) d v all = marked_next [] values k d v (omega (arith, all))
-  marked_next (m ∷ nulls) (w ∷ values) zero d v all = refl
-  marked_next (m ∷ nulls) (w ∷ values) (suc k) d v all = marked_next nulls values k d v (omega (arith, all))
-
-  pub marked_within : (n : ℕ) (nulls : List Bool) (values : List A) → n < length values → n < length (marked cell nulls values)
-  marked_within n nulls values all = let long = marked_long (suc n) nulls values (omega (arith, all)) in omega (arith, long)
-
   -- cells that change nothing
   pub fold_marked : {S : Type 0} (add : S → Datum → S) (s : S) (n : ℕ) (nulls : List Bool) (values : List A) → add s null ≡ s → ((v : A) → add s (cell v) ≡ s)
       → fold add s (take n (marked cell nulls values)) ≡ s
@@ -77,7 +62,7 @@ module _ {A : Type 0} (cell : A → Datum) where
 
 view_long : (n : ℕ) (view : ColumnView) → HasRows n view → n ≤ length (view_cells view)
 view_long n (views.Boolean nulls column) long = marked_long (λ b. typed (values.Bool b)) n nulls.now column.now long
-view_long n (views.Bigint nulls column) long = marked_long (λ z. typed (values.Int z)) n nulls.now column.now long
+view_long n (views.Bigint column) long = marked_long (λ z. typed (values.Int z)) n column.nulls.now column.values.now long
 view_long n (views.Date nulls column) long = marked_long (λ z. typed (values.Date z)) n nulls.now column.now long
 view_long n (views.Time nulls column) long = marked_long (λ z. typed (values.Time z)) n nulls.now column.now long
 view_long n (views.Timestamp nulls column) long = marked_long (λ z. typed (values.Stamp z)) n nulls.now column.now long
@@ -85,29 +70,20 @@ view_long n (views.Varchar nulls column) long = marked_long text n nulls.now col
 
 pub filled_by_marks : (n : ℕ) (view : ColumnView) → HasRows n view → count_by is_filled (take n (view_cells view)) + count_by (λ mark. mark) (take n (nulls_in view)) ≡ n
 filled_by_marks n (views.Boolean nulls column) long = count_marked (λ b. typed (values.Bool b)) n nulls.now column.now (λ b. refl) long
-filled_by_marks n (views.Bigint nulls column) long = count_marked (λ z. typed (values.Int z)) n nulls.now column.now (λ z. refl) long
+filled_by_marks n (views.Bigint column) long = count_marked (λ z. typed (values.Int z)) n column.nulls.now column.values.now (λ z. refl) long
 filled_by_marks n (views.Date nulls column) long = count_marked (λ z. typed (values.Date z)) n nulls.now column.now (λ z. refl) long
 filled_by_marks n (views.Time nulls column) long = count_marked (λ z. typed (values.Time z)) n nulls.now column.now (λ z. refl) long
 filled_by_marks n (views.Timestamp nulls column) long = count_marked (λ z. typed (values.Stamp z)) n nulls.now column.now (λ z. refl) long
 filled_by_marks n (views.Varchar nulls column) long = count_marked text n nulls.now column.now (λ t. refl) long
-
--- one cell more of a column
-module _ {A S : Type 0} (cell : A → Datum) (add : S → Datum → S) (first : S) (nulls : List Bool) (values : List A) (k : ℕ) (b : Bool) (v : A) where
-  pub fold_next : k < length values → b ≡ get_or nulls k false → slice_get values k ≡ Some v → (now next : S) → now ≡ fold add first (take k (marked cell nulls values))
-      → next ≡ add now (if b then null else cell v) → next ≡ fold add first (take (k + 1) (marked cell nulls values))
-  fold_next all mark found now next so_far told =
-      told ∙ (λ i. add (so_far i) (if mark i then null else cell (sym (get_or_from_slice_get values k v v found) i)))
-      ∙ ap (add (fold add first (take k (marked cell nulls values)))) (sym (marked_next cell nulls values k null v all))
-      ∙ sym (fold_more add first (marked cell nulls values) k null (marked_within cell k nulls values all))
 
 -- columns that have none
 not_a_number : {A : Type 0} (cell : A → Datum) (extent : Option Extent) → ((v : A) → extent_with extent (cell v) ≡ extent) → (n : ℕ) (nulls : List Bool) (values : List A)
     → extent ≡ fold extent_with extent (take n (marked cell nulls values))
 not_a_number cell extent none n nulls values = sym (fold_marked cell extent_with extent n nulls values refl none)
 
-pub no_numbers : (extent : Option Extent) (n : ℕ) (view : ColumnView) → ((nulls : Bor (List Bool)) (column : Bor (List ℤ)) → view ≢ views.Bigint nulls column) → extent ≡ fold extent_with extent (take n (view_cells view))
+pub no_numbers : (extent : Option Extent) (n : ℕ) (view : ColumnView) → ((column : BigintView) → view ≢ views.Bigint column) → extent ≡ fold extent_with extent (take n (view_cells view))
 no_numbers extent n (views.Boolean nulls column) no_bigint = not_a_number (λ b. typed (values.Bool b)) extent (λ b. refl) n nulls.now column.now
-no_numbers extent n (views.Bigint nulls column) no_bigint = absurd (no_bigint nulls column refl)
+no_numbers extent n (views.Bigint column) no_bigint = absurd (no_bigint column refl)
 no_numbers extent n (views.Date nulls column) no_bigint = not_a_number (λ z. typed (values.Date z)) extent (λ z. refl) n nulls.now column.now
 no_numbers extent n (views.Time nulls column) no_bigint = not_a_number (λ z. typed (values.Time z)) extent (λ z. refl) n nulls.now column.now
 no_numbers extent n (views.Timestamp nulls column) no_bigint = not_a_number (λ z. typed (values.Stamp z)) extent (λ z. refl) n nulls.now column.now
@@ -119,7 +95,7 @@ not_a_text cell width none n nulls values = sym (fold_marked cell width_with wid
 
 pub no_texts : (width : Option Width) (n : ℕ) (view : ColumnView) → ((nulls : Bor (List Bool)) (texts : Bor (List (List ℕ))) → view ≢ views.Varchar nulls texts) → width ≡ fold width_with width (take n (view_cells view))
 no_texts width n (views.Boolean nulls column) no_varchar = not_a_text (λ b. typed (values.Bool b)) width (λ b. refl) n nulls.now column.now
-no_texts width n (views.Bigint nulls column) no_varchar = not_a_text (λ z. typed (values.Int z)) width (λ z. refl) n nulls.now column.now
+no_texts width n (views.Bigint column) no_varchar = not_a_text (λ z. typed (values.Int z)) width (λ z. refl) n column.nulls.now column.values.now
 no_texts width n (views.Date nulls column) no_varchar = not_a_text (λ z. typed (values.Date z)) width (λ z. refl) n nulls.now column.now
 no_texts width n (views.Time nulls column) no_varchar = not_a_text (λ z. typed (values.Time z)) width (λ z. refl) n nulls.now column.now
 no_texts width n (views.Timestamp nulls column) no_varchar = not_a_text (λ z. typed (values.Stamp z)) width (λ z. refl) n nulls.now column.now
@@ -267,37 +243,3 @@ counts_are_few n columns more told =
     let few = sums_are_few n (λ column. count_by is_filled (take n (view_cells column))) columns
     (λ c. let one = count_by-le-length is_filled (take n (view_cells c)) in let long = length-take n (view_cells c) in omega (arith, one, long)) in
     omega (arith, told, few)
-
--- ---- numbers without marks
-
-plain_front : {A : Type 0} (cell : A → Datum) (n : ℕ) (values : List A) → take n (marked cell [] values) ≡ map cell (take n values)
-plain_front cell zero values = refl
-plain_front cell (suc n) [] = refl
-plain_front cell (suc n) (v ∷ values) = ap (λ cells. cell v ∷ cells) (plain_front cell n values)
-
--- the first values of a column that has no mark
-pub fold_plain : {A S : Type 0} (cell : A → Datum) (add : S → Datum → S) (s : S) (n : ℕ) (nulls : List Bool) (values front : List A) → nulls ≡ [] → front ≡ take n values
-    → fold add s (map cell front) ≡ fold add s (take n (marked cell nulls values))
-fold_plain cell add s n nulls values front none is =
-    ap (λ vs. fold add s (map cell vs)) is ∙ ap (fold add s) (sym (plain_front cell n values)) ∙ ap (λ ns. fold add s (take n (marked cell ns values))) (sym none)
-
--- one number more
-widened_next : (numbers : List ℤ) (k : ℕ) (number : ℤ) (first : Option Extent) → k < length numbers → number ≡ get_or numbers k number
-    → fold extent_with first (map (λ n. typed (values.Int n)) (take (suc k) numbers)) ≡ extent_with (fold extent_with first (map (λ n. typed (values.Int n)) (take k numbers))) (typed (values.Int number))
-widened_next [] k number first within is = absurd (let no : ⊥ = omega (arith, within) in no)
-widened_next (n ∷ numbers) zero number first within is = ap (λ z. extent_with first (typed (values.Int z))) (sym is)
-widened_next (n ∷ numbers) (suc k) number first within is = widened_next numbers k number (extent_with first (typed (values.Int n))) (omega (arith, within)) is
-
-pub widened_more : (numbers : List ℤ) (k : ℕ) (number : ℤ) (first : Option Extent) (so_far more : Extent) → k < length numbers → number ≡ get_or numbers k number
-    → Some so_far ≡ fold extent_with first (map (λ n. typed (values.Int n)) (take k numbers)) → more ≡ record { least = int_min so_far.least number; greatest = int_max so_far.greatest number }
-    → Some more ≡ fold extent_with first (map (λ n. typed (values.Int n)) (take (k + 1) numbers))
-widened_more numbers k number first so_far more within is are told =
-    rw add-one (ap Some told ∙ ap (λ extent. extent_with extent (typed (values.Int number))) are ∙ sym (widened_next numbers k number first within is))
-
--- the extent of numbers is that of the first, and the others
-pub first_number : (numbers : List ℤ) (first : ℤ) → slice_get numbers 0 ≡ Some first
-    → fold extent_with (Some (record { least = first; greatest = first })) (map (λ n. typed (values.Int n)) (drop 1 numbers)) ≡ fold extent_with None (map (λ n. typed (values.Int n)) numbers)
-first_number [] first at = absurd (let no : ⊥ = cc in no)
-first_number (n ∷ numbers) first at =
-    let same : n ≡ first = cc in
-    ap (λ z. fold extent_with (Some (record { least = z; greatest = z })) (map (λ n. typed (values.Int n)) numbers)) (sym same)

@@ -3,12 +3,13 @@ use Rattle.std.proofs.Common.{ℕ, ◌+◌, ◌<◌, ◌^◌, List, [], ◌∷�
 use Rattle.std.specs.Prelude.{count_by, sum_by, Bool, true, false, if◌then◌else◌, nat_le}
 use Rattle.std.proofs.lemmas.List.Sums.{count_by-le-length, sum_by-cons}
 use Rattle.value_types.specs.Datum.{Datum}
+use Rattle.value_types.specs.Extent.{extent_with}
 use Rattle.column_taps.specs.declared.kind.TapKind.{TapKind}
 use Rattle.column_taps.specs.declared.kind.TapKind.TheVariants.{Count, Span, Width, Distinct}
-use Rattle.column_taps.specs.declared.span.Extent as extents
+use Rattle.value_types.specs.declared.extent.Extent as extents
 use Rattle.column_taps.specs.declared.width.Width as widths
 use Rattle.column_taps.specs.Pairs.{Pair, pairs_with}
-use Rattle.column_taps.specs.Seen.{Seen, counted, spanned, measured, told_apart, by_column, extent_with, width_with, kind_of, nothing_seen, is_filled, IsFresh}
+use Rattle.column_taps.specs.Seen.{Seen, counted, spanned, measured, told_apart, by_column, width_with, kind_of, nothing_seen, is_filled, IsFresh}
 use Rattle.column_taps.specs.Course.{going, over_at, course_of, course_after, MayGo}
 
 counts_have_room : (seen_rows cells number : ℕ) (rows : List (List Datum)) → seen_rows + length rows < 2 ^ 62 → cells + sum_by length rows < 2 ^ 62

@@ -7,8 +7,9 @@ use Rattle.std.proofs.lemmas.List.{take_all}
 use Rattle.value_types.specs.Datum.{Datum, null}
 use Rattle.value_types.specs.declared.views.ColumnView.{ColumnView}
 use Rattle.value_types.specs.Views.{row_at, view_cells, view_rows}
+use Rattle.value_types.specs.Extent.{extent_with}
 use Rattle.column_taps.specs.Pairs.{pairs_with}
-use Rattle.column_taps.specs.Seen.{Seen, counted, spanned, measured, told_apart, step, is_filled, by_column, extent_with, width_with, HasRoom}
+use Rattle.column_taps.specs.Seen.{Seen, counted, spanned, measured, told_apart, step, is_filled, by_column, width_with, HasRoom}
 use Rattle.column_taps.specs.Shown.{one_row_more, shown_rows, HasRoomForRows}
 
 got : (xs : List Datum) (k : ℕ) (cell : Datum) → slice_get xs k ≡ Some cell → get_or xs k null ≡ cell

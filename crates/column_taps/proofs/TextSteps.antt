@@ -8,7 +8,8 @@ use Rattle.value_types.specs.Datum.{Datum, null, typed, text}
 use Rattle.value_types.specs.declared.types.Value.TheVariants as values
 use Rattle.value_types.specs.declared.views.ColumnView.{ColumnView}
 use Rattle.value_types.specs.declared.views.ColumnView.TheVariants as views
-use Rattle.value_types.specs.Views.{marked, row_at, rows_from, view_cells, view_rows, HasRows}
+use Rattle.value_types.specs.Marked.{marked}
+use Rattle.value_types.specs.Views.{row_at, rows_from, view_cells, view_rows, HasRows}
 use Rattle.column_taps.specs.declared.text_columns.TextColumn.{TextColumn}
 use Rattle.column_taps.specs.Pairs.{Pair, pairs_and_cell, pairs_with}
 use Rattle.column_taps.specs.Seen.{told_apart, step}
@@ -53,7 +54,7 @@ no_text cell place pairs none (suc row) (b ∷ nulls) (v ∷ values) = no_text c
 
 one_column : (row place : ℕ) (pairs : List Pair) (column : ColumnView) → pairs_and_cell place pairs (get_or (view_cells column) row null) ≡ pairs_with_texts row pairs (as_texts place column)
 one_column row place pairs (views.Boolean nulls column) = no_text (λ b. typed (values.Bool b)) place pairs (λ b. refl) row nulls.now column.now
-one_column row place pairs (views.Bigint nulls column) = no_text (λ z. typed (values.Int z)) place pairs (λ z. refl) row nulls.now column.now
+one_column row place pairs (views.Bigint column) = no_text (λ z. typed (values.Int z)) place pairs (λ z. refl) row column.nulls.now column.values.now
 one_column row place pairs (views.Date nulls column) = no_text (λ z. typed (values.Date z)) place pairs (λ z. refl) row nulls.now column.now
 one_column row place pairs (views.Time nulls column) = no_text (λ z. typed (values.Time z)) place pairs (λ z. refl) row nulls.now column.now
 one_column row place pairs (views.Timestamp nulls column) = no_text (λ z. typed (values.Stamp z)) place pairs (λ z. refl) row nulls.now column.now
@@ -85,7 +86,7 @@ texts_with_one row old now more columns k column within is so_far told =
 
 have_texts : (count most place : ℕ) (column : ColumnView) → count ≤ most → HasRows most column → All (HasTexts count) (as_texts place column)
 have_texts count most place (views.Boolean nulls column) less long = All-nil (HasTexts count)
-have_texts count most place (views.Bigint nulls column) less long = All-nil (HasTexts count)
+have_texts count most place (views.Bigint column) less long = All-nil (HasTexts count)
 have_texts count most place (views.Date nulls column) less long = All-nil (HasTexts count)
 have_texts count most place (views.Time nulls column) less long = All-nil (HasTexts count)
 have_texts count most place (views.Timestamp nulls column) less long = All-nil (HasTexts count)

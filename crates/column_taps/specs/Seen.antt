@@ -1,13 +1,11 @@
 -- What taps have seen of rows.
-use Rattle.std.specs.Prelude.{◌≡◌, ℕ, ◌+◌, ◌<◌, ◌^◌, max, List, [], ◌∷◌, length, Option, Some, None, if◌then◌else◌, nat_le, count_by, Bool, true, false, ℤ, ⊤}
-use Rattle.std.specs.Int.{int_min, int_max}
-use Rattle.value_types.specs.declared.types.Value.{Value}
-use Rattle.value_types.specs.declared.types.Value.TheVariants as values
+use Rattle.std.specs.Prelude.{◌≡◌, ℕ, ◌+◌, ◌<◌, ◌^◌, max, List, [], ◌∷◌, length, Option, Some, None, if◌then◌else◌, nat_le, count_by, Bool, true, false, ⊤}
 use Rattle.value_types.specs.Datum.{Datum, null, typed, text}
+use Rattle.value_types.specs.Extent.{extent_with}
 use Rattle.column_taps.specs.Pairs.{Pair, pairs_with}
 use Rattle.column_taps.specs.declared.kind.TapKind.{TapKind}
 use Rattle.column_taps.specs.declared.kind.TapKind.TheVariants as kinds
-use Rattle.column_taps.specs.declared.span.Extent.{Extent}
+use Rattle.value_types.specs.declared.extent.Extent.{Extent}
 use Rattle.column_taps.specs.declared.width.Width.{Width}
 
 -- how many rows and how many cells that aren't null; of each column its extent, where it had a number; of each column its width, where it had a text; the most that may be different, and the different texts with their columns, in order of first coming
@@ -36,25 +34,6 @@ abbrev pub is_filled : Datum → Bool
 is_filled null = false
 is_filled (typed value) = true
 is_filled (text bytes) = true
-
--- an extent that takes in a number
-abbrev pub taking_in : Option Extent → ℤ → Option Extent
-taking_in None n = Some (record { least = n; greatest = n })
-taking_in (Some extent) n = Some (record { least = int_min extent.least n; greatest = int_max extent.greatest n })
-
--- an extent with a value of its column: numbers alone count
-abbrev pub extent_with_value : Option Extent → Value → Option Extent
-extent_with_value extent (values.Int n) = taking_in extent n
-extent_with_value extent (values.Bool b) = extent
-extent_with_value extent (values.Date day) = extent
-extent_with_value extent (values.Time micros) = extent
-extent_with_value extent (values.Stamp stamp) = extent
-
--- an extent with a cell of its column
-abbrev pub extent_with : Option Extent → Datum → Option Extent
-extent_with extent null = extent
-extent_with extent (typed value) = extent_with_value extent value
-extent_with extent (text bytes) = extent
 
 -- the greater of a width so far and another
 abbrev pub wider : Option Width → ℕ → Option Width

@@ -4,14 +4,14 @@ use Rattle.std.specs.List.{slice_index_or}
 use Rattle.value_types.specs.Datum.{null, text}
 use Rattle.value_types.specs.declared.views.ColumnView.{ColumnView}
 use Rattle.value_types.specs.declared.views.ColumnView.TheVariants as views
-use Rattle.value_types.specs.Views.{marked}
+use Rattle.value_types.specs.Marked.{marked}
 use Rattle.column_taps.specs.declared.text_columns.TextColumn.{TextColumn}
 use Rattle.column_taps.specs.Pairs.{Pair, pairs_and_cell}
 
 -- a column of this number, where it is one of texts
 abbrev pub as_texts : ℕ → ColumnView → List TextColumn
 as_texts place (views.Boolean nulls column) = []
-as_texts place (views.Bigint nulls column) = []
+as_texts place (views.Bigint column) = []
 as_texts place (views.Date nulls column) = []
 as_texts place (views.Time nulls column) = []
 as_texts place (views.Timestamp nulls column) = []

@@ -2,7 +2,7 @@
 ghost use Rattle.std.specs.Prelude.{◌≡◌, ◌+◌, [], length, take, All, OnOk, OnErr};
 ghost use Rattle.std.specs.List.{slice_index_or};
 ghost use Rattle.value_types.specs.Datum.{datum_of, null, text};
-ghost use Rattle.value_types.specs.Views.{marked};
+ghost use Rattle.value_types.specs.Marked.{marked};
 ghost use Rattle.column_taps.specs.Pairs.{pairs_and, pairs_and_cell, pairs_with};
 ghost use Rattle.column_taps.specs.KeptPairs.{pairs_in};
 ghost use Rattle.column_taps.specs.TextColumns.{HasTexts, pairs_with_texts};

@@ -1,10 +1,11 @@
 // A tap of the least and the greatest numbers.
-ghost use Rattle.std.specs.Prelude.{◌≡◌, ◌++◌, take, Some, OnOk, OnErr};
+ghost use Rattle.std.specs.Prelude.{◌≡◌, ◌++◌, take, OnOk, OnErr};
 ghost use Rattle.std.specs.List.{fold};
 ghost use Rattle.value_types.specs.Datum.{datum_of};
+ghost use Rattle.value_types.specs.Extent.{extent_with};
 ghost use Rattle.value_types.specs.Views.{view_cells, HasRows};
 ghost use Rattle.column_taps.specs.declared.kind.TapKind.TheVariants.{Span};
-ghost use Rattle.column_taps.specs.Seen.{nothing_seen, taking_in, extent_with};
+ghost use Rattle.column_taps.specs.Seen.{nothing_seen};
 ghost use Rattle.column_taps.specs.SeenLines.{extent_line};
 
 use crate::columns::{Known, add_columns, add_row, write_columns};
@@ -12,34 +13,8 @@ use crate::lines::push_line;
 use crate::{RowTap, TapKind, Tapped};
 use csv_source::NoMemory;
 use itoa::Buffer;
-use numbers::with_numbers;
 use std::alloc::Global;
-use value_types::{Cell, Cells, ColumnView, Value};
-
-/// The least and the greatest number so far.
-#[derive(Clone, Copy)]
-pub(crate) struct Extent {
-    least: i64,
-    greatest: i64,
-}
-
-/// An extent that takes in a number.
-fn taking_in(extent: Option<Extent>, number: i64) -> Extent
-    ensures { Some result ≡ taking_in extent number }
-{
-    match extent {
-        None => Extent {
-            least: number,
-            greatest: number,
-        },
-        Some(extent) => Extent {
-            least: extent.least.min(number),
-            greatest: extent.greatest.max(number),
-        },
-    }
-}
-
-mod numbers;
+use value_types::{Cell, Cells, ColumnView, Extent, Value, taking_in, widened};
 
 impl Known for Extent {
     ghost with = { extent_with };
@@ -60,7 +35,7 @@ impl Known for Extent {
         ensures { result ≡ fold extent_with extent (take rows (view_cells column.now)) }
     {
         match *column {
-            ColumnView::Bigint(nulls, values) => with_numbers(extent, rows, nulls, values),
+            ColumnView::Bigint(column) => widened(extent, column.extent(rows)),
             _ => extent,
         }
     }

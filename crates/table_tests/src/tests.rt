@@ -1,4 +1,5 @@
 mod cells;
+mod extents;
 mod files;
 mod lists;
 mod numbers;

@@ -16,7 +16,7 @@ fn view_of(column: &Column) -> ColumnView<'_>
 {
     match column {
         Column::Boolean(column) => ColumnView::Boolean(column.nulls(), column.values()),
-        Column::Bigint(column) => ColumnView::Bigint(column.nulls(), column.values()),
+        Column::Bigint(column) => ColumnView::Bigint(column.view()),
         Column::Date(column) => ColumnView::Date(column.nulls(), column.values()),
         Column::Time(column) => ColumnView::Time(column.nulls(), column.values()),
         Column::Timestamp(column) => ColumnView::Timestamp(column.nulls(), column.values()),

@@ -2,7 +2,7 @@
 ghost use Rattle.std.specs.Prelude.{◌≡◌, ◌≤◌, length, take, if◌then◌else◌};
 ghost use Rattle.std.specs.List.{fold};
 ghost use Rattle.value_types.specs.Datum.{null, text};
-ghost use Rattle.value_types.specs.Views.{marked};
+ghost use Rattle.value_types.specs.Marked.{marked};
 ghost use Rattle.column_taps.specs.Seen.{width_with};
 
 use super::Width;

@@ -1,5 +1,8 @@
+use Rattle.std.proofs.Common.{arith}
+use Rattle.std.proofs.lemmas.List.{length-map}
 use Rattle.value_types.specs.declared.types.Value.TheVariants as values
 use Rattle.value_types.specs.Datum.{typed, text}
+use Rattle.column_store.specs.Nullable.{datum_by, options}
 use Rattle.column_store.proofs.ViewCells.{cells_are, all_long}
 use Rattle.column_store.proofs.chunk.views.view_of.Goals as goal
 
@@ -10,10 +13,10 @@ pub returns-in-Boolean-clause-long : goal.returns-in-Boolean-clause-long
 returns-in-Boolean-clause-long c = rw c.in-Boolean.is (all_long (λ b. typed (values.Bool b)) c.in-Boolean.column.nulls.items c.in-Boolean.column.values.items _ c.values.ensures)
 
 pub returns-in-Bigint-clause-cells : goal.returns-in-Bigint-clause-cells
-returns-in-Bigint-clause-cells c = rw c.in-Bigint.is (cells_are (λ n. typed (values.Int n)) c.in-Bigint.column.nulls.items c.in-Bigint.column.values.items _ _ c.nulls-in-Bigint.ensures c.values-in-Bigint.ensures)
+returns-in-Bigint-clause-cells c = rw c.in-Bigint.is c.view.ensures.cells
 
 pub returns-in-Bigint-clause-long : goal.returns-in-Bigint-clause-long
-returns-in-Bigint-clause-long c = rw c.in-Bigint.is (all_long (λ n. typed (values.Int n)) c.in-Bigint.column.nulls.items c.in-Bigint.column.values.items _ c.values-in-Bigint.ensures)
+returns-in-Bigint-clause-long c = rw c.in-Bigint.is (omega (arith, c.view.ensures.fits, length-map (options c.in-Bigint.column.numbers) (datum_by (λ n. typed (values.Int n)))))
 
 pub returns-in-Date-clause-cells : goal.returns-in-Date-clause-cells
 returns-in-Date-clause-cells c = rw c.in-Date.is (cells_are (λ n. typed (values.Date n)) c.in-Date.column.nulls.items c.in-Date.column.values.items _ _ c.nulls-in-Date.ensures c.values-in-Date.ensures)

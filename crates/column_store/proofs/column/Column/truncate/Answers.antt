@@ -13,7 +13,7 @@ returns-in-Boolean-clause-value c =
 
 pub returns-in-Bigint-clause-value : goal.returns-in-Bigint-clause-value
 returns-in-Bigint-clause-value c =
-    cut_cells (λ v. typed (values.Int v)) c.args.count (options c.in-Bigint.column) (options c.truncate-in-Bigint.new.self) c.truncate-in-Bigint.ensures.value
+    cut_cells (λ v. typed (values.Int v)) c.args.count (options c.in-Bigint.column.numbers) (options c.truncate-in-Bigint.new.self.numbers) c.truncate-in-Bigint.ensures.value
     ∙ sym (λ i. take c.args.count (cells_of (c.in-Bigint.is i)))
 
 pub returns-in-Date-clause-value : goal.returns-in-Date-clause-value

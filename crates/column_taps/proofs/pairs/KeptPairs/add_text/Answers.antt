@@ -4,7 +4,7 @@ use Rattle.std.proofs.lemmas.Option.{get_or_from_slice_get}
 use Rattle.value_types.specs.Datum.{Datum, null, text}
 use Rattle.column_taps.specs.Pairs.{pairs_and_cell}
 use Rattle.column_taps.specs.KeptPairs.{pairs_in}
-use Rattle.column_taps.proofs.ColumnRows.{marked_next}
+use Rattle.value_types.proofs.MarkedSteps.{marked_next}
 use Rattle.column_taps.proofs.pairs.KeptPairs.add_text.Goals as goal
 
 pub returns-then-is_marked-clause-ok : goal.returns-then-is_marked-clause-ok

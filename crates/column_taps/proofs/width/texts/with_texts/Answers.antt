@@ -1,7 +1,7 @@
 use Rattle.std.proofs.Common.{arith}
 use Rattle.value_types.specs.Datum.{text}
 use Rattle.column_taps.specs.Seen.{width_with}
-use Rattle.column_taps.proofs.ColumnRows.{fold_next}
+use Rattle.value_types.proofs.MarkedSteps.{fold_next}
 use Rattle.column_taps.proofs.width.texts.with_texts.Goals as goal
 
 pub loop-row-preserved : goal.loop-row-preserved

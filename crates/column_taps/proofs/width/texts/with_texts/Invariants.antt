@@ -1,7 +1,7 @@
 use Rattle.std.proofs.Common.{◌≡◌, take}
 use Rattle.std.specs.List.{fold}
 use Rattle.value_types.specs.Datum.{text}
-use Rattle.value_types.specs.Views.{marked}
+use Rattle.value_types.specs.Marked.{marked}
 use Rattle.column_taps.specs.Seen.{width_with}
 use Rattle.column_taps.proofs.width.texts.with_texts.Given as goal
 

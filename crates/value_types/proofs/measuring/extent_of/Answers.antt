@@ -1,9 +1,9 @@
-use Rattle.std.proofs.Common.{◌≡◌, List, [], ◌∷◌, Bool, length, refl, ◌∙◌, arith}
+use Rattle.std.proofs.Common.{◌≡◌, List, [], ◌∷◌, Bool, length, refl, ◌∙◌, arith, None}
 use Rattle.value_types.specs.declared.types.Value.TheVariants as values
 use Rattle.value_types.specs.Datum.{typed}
-use Rattle.column_taps.specs.Seen.{extent_with}
-use Rattle.column_taps.proofs.ColumnRows.{fold_plain}
-use Rattle.column_taps.proofs.span.numbers.with_numbers.Goals as goal
+use Rattle.value_types.specs.Extent.{extent_with}
+use Rattle.value_types.proofs.MarkedSteps.{fold_plain}
+use Rattle.value_types.proofs.measuring.extent_of.Goals as goal
 
 unmarked : (nulls : List Bool) → length nulls ≡ 0 → nulls ≡ []
 unmarked [] none = refl
@@ -12,4 +12,4 @@ unmarked (n ∷ nulls) none = absurd (let no : ⊥ = omega (arith, none) in no)
 pub returns-then-is_empty : goal.returns-then-is_empty
 returns-then-is_empty c =
     let none : length c.args.nulls.now ≡ 0 = grind (arith, c.if-is_empty.ensures) in
-    c.with_plain.ensures ∙ fold_plain (λ n. typed (values.Int n)) extent_with c.args.extent c.args.rows c.args.nulls.now c.args.numbers.now _ (unmarked c.args.nulls.now none) refl
+    c.extent_of_plain.ensures ∙ fold_plain (λ n. typed (values.Int n)) extent_with None c.args.rows c.args.nulls.now c.args.numbers.now _ (unmarked c.args.nulls.now none) refl

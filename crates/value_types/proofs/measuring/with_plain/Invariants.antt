@@ -2,8 +2,8 @@ use Rattle.std.proofs.Common.{◌≡◌, map, take, Some}
 use Rattle.std.specs.List.{fold}
 use Rattle.value_types.specs.declared.types.Value.TheVariants as values
 use Rattle.value_types.specs.Datum.{typed}
-use Rattle.column_taps.specs.Seen.{extent_with}
-use Rattle.column_taps.proofs.span.numbers.widened.Given as goal
+use Rattle.value_types.specs.Extent.{extent_with}
+use Rattle.value_types.proofs.measuring.with_plain.Given as goal
 
 -- the numbers so far are taken in
 abbrev pub invariant-loop-place : goal.invariant-loop-place

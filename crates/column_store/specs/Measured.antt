@@ -1,0 +1,17 @@
+-- The extent of a BIGINT column, as far as it has been taken.
+use Rattle.std.specs.Prelude.{◌≡◌, ◌≤◌, ℕ, ℤ, List, length, map, Option}
+use Rattle.value_types.specs.declared.extent.Extent.{Extent}
+use Rattle.value_types.specs.declared.types.Value.TheVariants as values
+use Rattle.value_types.specs.Datum.{Datum, typed}
+use Rattle.value_types.specs.Extent.{extent_of}
+use Rattle.column_store.specs.declared.nullable.Nullable.{Nullable}
+use Rattle.column_store.specs.Nullable.{datum_by, options}
+
+-- the cells of numbers that may be null
+abbrev pub number_cells : Nullable ℤ → List Datum
+number_cells numbers = map (datum_by (λ n. typed (values.Int n))) (options numbers)
+
+-- there are so many cells, and the first ones have this extent
+pub record IsMeasured (measured : ℕ) (extent : Option Extent) (cells : List Datum) : Type 0 where
+  pub within : measured ≤ length cells
+  pub exact : extent ≡ extent_of measured cells
