@@ -6,7 +6,9 @@ ghost use Rattle.load_options.specs.Accepted.{IsAccepted};
 use super::words::options_of;
 use byte_classes::Dialect;
 use csv_source::NoMemory;
-use dialect_rank::{best, candidates, higher, rank, sample_rows, score};
+use dialect_rank::{
+    absent_quotes, best, candidates, higher, higher_given, rank, sample_rows, score,
+};
 use load_options::Options;
 use std::alloc::Global;
 use std::process::Abort;
@@ -148,6 +150,35 @@ fn the_higher_of_two_is_kept(rt: HostRuntime) -> Result<(), Fail> {
     assert_eq!(rt; (second.score.mode, second.score.agree), (4, 4));
     let third = higher(alloc, second, &comma, text, true, 20_480)?;
     assert_eq!(rt; third.dialect, bar);
+    Ok(())
+}
+
+#[test]
+fn quotes_that_a_sample_does_not_have_are_known(rt: HostRuntime) -> Result<(), Fail> {
+    let absent = absent_quotes(b"a,'b'\n");
+    assert_eq!(rt; (absent.double, absent.single), (true, false));
+    let absent = absent_quotes(b"a,b\"");
+    assert_eq!(rt; (absent.double, absent.single), (false, true));
+    let absent = absent_quotes(b"");
+    assert_eq!(rt; (absent.double, absent.single), (true, true));
+    Ok(())
+}
+
+/// All rows agree on two columns under both dialects, but only one of them closes quotes.
+#[test]
+fn quotes_raise_a_dialect_above_one_without(rt: HostRuntime) -> Result<(), Fail> {
+    let alloc = rt.alloc();
+    let text = b"a,b;c\n'x';'y,z'\n'u';'v,w'\n";
+    let absent = absent_quotes(text);
+    let comma = dialect(&rt, b',', b'"', b'"');
+    let double = dialect(&rt, b';', b'"', b'"');
+    let single = dialect(&rt, b';', b'\'', b'\'');
+    let first = rank(alloc, &comma, text, true, 20_480)?;
+    assert_eq!(rt; (first.score.agree, first.score.closed), (3, 0));
+    let second = higher_given(alloc, first, &double, text, true, 20_480, absent)?;
+    assert_eq!(rt; second.dialect, comma);
+    let third = higher_given(alloc, second, &single, text, true, 20_480, absent)?;
+    assert_eq!(rt; third.dialect, single);
     Ok(())
 }
 

@@ -41,7 +41,7 @@ const EXPORT: &str =
 struct Found(&'static str, &'static str, Newline, &'static str, usize);
 
 /// Inputs that show a rule each, with what DuckDB's manual and this loader's rules find in them.
-const FOUND: [Found; 16] = [
+const FOUND: [Found; 23] = [
     Found(
         "load f.csv",
         FLIGHTS,
@@ -141,6 +141,55 @@ const FOUND: [Found; 16] = [
         Newline::Lf,
         "column0:BIGINT column1:BIGINT ",
         0,
+    ),
+    Found(
+        "load f.csv",
+        "d,t,n\n2020-01-01,2020-01-01,\n,2020-01-01T10:00:00,\n2020-01-02,2020-01-03,x\n",
+        Newline::Lf,
+        "d:DATE t:TIMESTAMP n:VARCHAR ",
+        6,
+    ),
+    Found(
+        "load f.csv",
+        "d,b,t,n\n2020-01-01,true,,1\n,,10:00:00,x\n7,FALSE,11:00:00.5,2\n",
+        Newline::Lf,
+        "d:VARCHAR b:BOOLEAN t:TIME n:VARCHAR ",
+        8,
+    ),
+    Found(
+        "load f.csv nullstr=-",
+        "d,t\n-,2020-01-01 10:30:00\n2020-01-01,-\n-,2020-01-02\n",
+        Newline::Lf,
+        "d:DATE t:TIMESTAMP ",
+        4,
+    ),
+    Found(
+        "load f.csv",
+        "a|b\n'x|y'|1\n",
+        Newline::Lf,
+        "a:VARCHAR b:BIGINT ",
+        4,
+    ),
+    Found(
+        "load f.csv",
+        "a,b;c\n'x';'y,z'\n'u';'v,w'\n",
+        Newline::Lf,
+        "a,b:VARCHAR c:VARCHAR ",
+        6,
+    ),
+    Found(
+        "load f.csv",
+        "a\n-5\n +3 \n999999999999999999\n9223372036854775807\n\n1\n",
+        Newline::Lf,
+        "a:BIGINT ",
+        2,
+    ),
+    Found(
+        "load f.csv quote=~",
+        "a,b\n1,2\n",
+        Newline::Lf,
+        "a:BIGINT b:BIGINT ",
+        4,
     ),
 ];
 

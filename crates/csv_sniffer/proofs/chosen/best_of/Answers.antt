@@ -17,3 +17,13 @@ loop-place-preserved c =
 pub returns : goal.returns
 returns c =
     best_of_all c.args.sample.now c.args.whole c.args.sample_size c.args.candidates.now (with_delim None 44 no_quote) c.loop-place.place c.loop-place.best (omega arith) c.requires c.loop-place.invariant
+
+pub returns-then-len-eq1 : goal.returns-then-len-eq1
+returns-then-len-eq1 c =
+    let sample = c.args.sample.now in
+    let whole = c.args.whole in
+    let size = c.args.sample_size in
+    let candidates = c.args.candidates.now in
+    let default = with_delim None 44 no_quote in
+    best_of_all sample whole size candidates default 1 c.in_ok-best.best (omega (arith, c.len.ensures, c.if-len-eq1.true)) c.requires
+    (best_of_one sample whole size candidates default c.get.result c.in_ok-best.best c.get.ensures c.in_ok-best.ensures)
