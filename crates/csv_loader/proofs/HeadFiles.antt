@@ -1,5 +1,5 @@
 -- A file that is read by its head and what comes behind it.
-use Rattle.std.proofs.Common.{◌≡◌, ℕ, ◌+◌, List, ◌++◌, Option, true, []}
+use Rattle.std.proofs.Common.{◌≡◌, ℕ, List, ◌++◌, Option, true, []}
 use Rattle.std.specs.Io.KnownBytes.{Consumes}
 use Rattle.window_load.specs.DataRead.{ComesWhole, ComesOver}
 use Rattle.window_load.specs.Window.{WindowView}

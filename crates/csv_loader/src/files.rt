@@ -14,7 +14,8 @@ ghost use Rattle.csv_loader.specs.Loading.{IsHead, GoesBehindSample, IsLoad, IsI
 ghost use Rattle.csv_loader.specs.Reading.{schema_of};
 
 use crate::loading::{Load, load_data};
-use csv_sniffer::{Finding, SAMPLE_LIMIT, Sniffed, place_under, sample_start, sniff_input};
+use crate::sniffed_head::{SniffedHead, sniff_head};
+use csv_sniffer::{Finding, SAMPLE_LIMIT, Sniffed, place_under, sample_start};
 use csv_source::{Gate, Source};
 use load_options::Options;
 use std::alloc::Global;
@@ -105,10 +106,11 @@ pub fn load_input<R: Threads + Wait + Sync, S: Source + Send, G: Gate>(
     ensures count { S.faults source.old ≤ S.faults source.new }
 {
     let head = open_head(alloc, options, name, source)?;
+    let SniffedHead { finding, head } = sniff_head(rt, alloc, options, head, source)?;
     let Finding {
         sniffed,
         data_start,
-    } = sniff_input(alloc, options, head.bytes())?;
+    } = finding;
     let load = load_data(
         rt, alloc, options, &sniffed, 0, head, data_start, source, gate,
     )?;

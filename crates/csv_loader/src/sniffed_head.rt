@@ -1,0 +1,110 @@
+// The head of an input, in whose sample something is found while what comes behind it is read.
+ghost use Rattle.std.specs.Prelude.{◌≡◌, ◌+◌, ◌≤◌, true, false, length, IfOk, IsTrue, Err};
+ghost use Rattle.std.specs.Io.KnownBytes.{IsAtEnd};
+ghost use Rattle.csv_source.specs.Causes.{Rose};
+ghost use Rattle.csv_source.specs.Moves.{MovesFront};
+ghost use Rattle.load_options.specs.Accepted.{IsAccepted};
+ghost use Rattle.range_scan.specs.Scanned.{HasColumns};
+ghost use Rattle.window_load.specs.DataRead.{ComesOver};
+ghost use Rattle.window_load.specs.Window.{reach, IsFilled};
+ghost use Rattle.window_load.specs.declared.stop.LoadStop.TheVariants as stops;
+ghost use Rattle.csv_loader.specs.Loading.{IsHead, IsFinding, IsSniffedHead};
+ghost use Rattle.csv_loader.specs.Reading.{schema_of};
+
+use csv_sniffer::{Finding, sniff_input};
+use csv_source::{NoMemory, Source};
+use load_options::Options;
+use std::alloc::Global;
+use std::thread::{Threads, join_mut};
+use window_load::{InputWindow, LoadStop, group_reach};
+
+/// What is found in an input, and the head of it, as far as it was read meanwhile.
+#[derive(Drop)]
+pub struct SniffedHead {
+    pub finding: Finding,
+    pub head: InputWindow,
+}
+
+/// Whether more of the input is read while its sample is looked at: one worker reads little at a time, and a pipeline has a
+/// thread of its own that reads.
+fn reads_on(options: &Options, head: &InputWindow) -> bool
+    ensures { IsTrue result → head.now.ended ≡ false }
+{
+    options.threads > 1 && !options.pipeline && !head.ended()
+}
+
+/// Looks at the sample of a head.
+fn sniff_kept(alloc: Global, options: &Options, head: &InputWindow) -> Result<Finding, NoMemory>
+    requires within { IsAccepted options.now }
+    ensures ok { IfOk result (IsFinding options.now head.now.kept) }
+    ensures columns { IfOk result (λ finding. HasColumns (schema_of options.now finding.sniffed)) }
+{
+    sniff_input(alloc, options, head.bytes())
+}
+
+/// Looks at the sample of a head, and meanwhile reads on, on a thread beside it, for what the first crew will ask for.
+fn sniff_beside<R: Threads + Sync, S: Source + Send>(
+    rt: &R,
+    alloc: Global,
+    options: &Options,
+    head: &InputWindow,
+    next: &mut InputWindow,
+    source: &mut S,
+) -> (Result<Finding, NoMemory>, Result<(), LoadStop>)
+    requires within { IsAccepted options.now }
+    requires at_end { next.old.ended ≡ true → IsAtEnd (S.left source.old) }
+    ensures ok { IfOk result.0 (IsFinding options.now head.now.kept) }
+    ensures columns { IfOk result.0 (λ finding. HasColumns (schema_of options.now finding.sniffed)) }
+    ensures filled { IfOk result.1 (λ _. reach next.new ≤ next.new.most) }
+    ensures too_large { result.1 ≡ Err stops.TooLarge → reach next.new ≡ next.new.most + 1 }
+    ensures moved { MovesFront (S.left source.old) (S.left source.new) next.old.kept next.new.kept }
+    ensures same { (next.new.base ≡ next.old.base) × (next.new.most ≡ next.old.most) }
+    ensures at_end { next.new.ended ≡ true → IsAtEnd (S.left source.new) }
+    ensures held { S.held source.new ≡ S.held source.old }
+    ensures count { S.faults source.old ≤ S.faults source.new }
+    ensures failed { result.1 ≡ Err stops.Failed → Rose (S.faults source.old) (S.faults source.new) }
+{
+    let group = group_reach(options.range_size, options.max_line_size);
+    let (filled, found) = join_mut(
+        rt,
+        &mut || { next.fill_to(source, group) },
+        &mut ||
+            requires { IsAccepted options.now }
+        { sniff_kept(alloc, options, head) },
+    );
+    (found, filled)
+}
+
+/// Finds what is in the sample of an input whose head was read. With several workers the input is read on meanwhile, into a
+/// copy of the head.
+pub fn sniff_head<R: Threads + Sync, S: Source + Send>(
+    rt: &R,
+    alloc: Global,
+    options: &Options,
+    head: InputWindow,
+    source: &mut S,
+) -> Result<SniffedHead, LoadStop>
+    requires within { IsAccepted options.now }
+    requires head { IsHead options.now.skip options.now.max_input head }
+    requires at_end { head.ended ≡ true → IsAtEnd (S.left source.old) }
+    ensures ok { IfOk result (IsSniffedHead options.now (S.left source.old) (S.left source.new) head) }
+    ensures columns { IfOk result (λ read. HasColumns (schema_of options.now read.finding.sniffed)) }
+    ensures at_end { IfOk result (λ read. read.head.ended ≡ true → IsAtEnd (S.left source.new)) }
+    ensures too_large { result ≡ Err stops.TooLarge → ComesOver (S.left source.old) (S.left source.new) head }
+    ensures failed { result ≡ Err stops.Failed → Rose (S.faults source.old) (S.faults source.new) }
+    ensures held { S.held source.new ≡ S.held source.old }
+    ensures count { S.faults source.old ≤ S.faults source.new }
+{
+    if !reads_on(options, &head) {
+        let finding = sniff_kept(alloc, options, &head)?;
+        return Ok(SniffedHead { finding, head });
+    }
+    let mut next = InputWindow::new(alloc, options.max_input);
+    next.copy_rest(&head, 0)?;
+    let (found, filled) = sniff_beside(rt, alloc, options, &head, &mut next, source);
+    filled?;
+    Ok(SniffedHead {
+        finding: found?,
+        head: next,
+    })
+}
