@@ -8,7 +8,7 @@ use crate::words::few_digits_in;
 
 /// The number that one to sixteen digits between two places spell; none also where they can't be read by words.
 #[inline(always)]
-fn digits_in(bytes: &[u8], from: usize, end: usize) -> Option<u64>
+pub(crate) fn digits_in(bytes: &[u8], from: usize, end: usize) -> Option<u64>
     requires within { (from ≤ end) × (end ≤ length bytes.now) }
     ensures { IfSome result (λ number. (natural_of (slice_range bytes.now from end) ≡ Some number) × (number < 2 ^ 63)) }
 {
@@ -25,7 +25,7 @@ fn digits_in(bytes: &[u8], from: usize, end: usize) -> Option<u64>
 
 /// A number behind a minus.
 #[inline(always)]
-fn negated(number: u64) -> i64
+pub(crate) fn negated(number: u64) -> i64
     requires { number < 2 ^ 63 }
     ensures { result ≡ neg_ℤ (pos number) }
 {

@@ -6,7 +6,7 @@ ghost use Rattle.value_types.specs.Words.{BeginsWord, IsWord, is_worth_of_digit,
 
 /// The eight bytes from a place on.
 #[inline(always)]
-fn word_at(bytes: &[u8], from: usize) -> u64
+pub(crate) fn word_at(bytes: &[u8], from: usize) -> u64
     requires { from + 8 ≤ length bytes.now }
     ensures { result ≡ word_of (slice_range bytes.now from (from + 8)) }
 {
@@ -91,4 +91,25 @@ pub(crate) fn few_digits_in(bytes: &[u8], from: usize, end: usize) -> Option<u64
     ensures { IfSome result (λ number. (natural_of (slice_range bytes.now from end) ≡ Some number) × (number < 100_000_000)) }
 {
     natural(word_of_text(bytes, from, end)?, end - from)
+}
+
+/// How many digits stand at the front of a word, eight at most. It says where to look: `natural` looks at each of them.
+#[inline(always)]
+pub(crate) fn digit_count(word: u64) -> usize
+    ensures { result ≤ 8 }
+{
+    let worths = word ^ 0x3030_3030_3030_3030;
+    // The top bit of the first byte that is worth ten or more; a carry out of it reaches only those behind it.
+    let others = (worths.wrapping_add(0x7676_7676_7676_7676) | worths) & 0x8080_8080_8080_8080;
+    others.trailing_zeros() as usize / 8
+}
+
+/// The number that so many bytes at a place spell.
+#[inline(always)]
+pub(crate) fn counted_digits(bytes: &[u8], from: usize, count: usize) -> Option<u64>
+    requires few { (0 < count) × (count ≤ 8) }
+    requires within { from + 8 ≤ length bytes.now }
+    ensures { IfSome result (λ number. (natural_of (slice_range bytes.now from (from + count)) ≡ Some number) × (number < 100_000_000)) }
+{
+    natural(word_at(bytes, from), count)
 }

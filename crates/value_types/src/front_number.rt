@@ -1,0 +1,83 @@
+// A number of 64 bits at the front of a text that goes on behind it, as a field in its row.
+ghost use Rattle.std.specs.Prelude.{◌≡◌, ◌≤◌, ◌<◌, ◌^◌, true, length, slice_range, IfSome, Some};
+ghost use Rattle.std.specs.List.{list_all};
+ghost use Rattle.value_types.specs.Cast.{bigint_of, trimmed};
+ghost use Rattle.value_types.specs.Digits.{is_numeral, natural_of};
+
+use crate::bigint_in::{digits_in, negated};
+use crate::words::{counted_digits, digit_count, word_at};
+
+/// A number that the bytes from a place on spell, and the place behind its last digit.
+#[derive(Clone, Copy, Debug, PartialEq, Eq)]
+pub struct FrontNumber {
+    pub number: i64,
+    pub end: usize,
+}
+
+/// What digits at a place spell, and the place behind them.
+#[derive(Clone, Copy)]
+struct FrontDigits {
+    number: u64,
+    end: usize,
+}
+
+/// Whether a byte may stand in what `bigint_front` reads: a digit or a minus.
+pub fn is_numeral(byte: u8) -> bool
+    ensures { result ≡ is_numeral byte }
+{
+    byte.is_ascii_digit() || byte == b'-'
+}
+
+/// The digits from a place on, where they are one to fifteen. None also near the bytes' end, where no word can be read.
+#[inline(always)]
+fn digits_front(bytes: &[u8], from: usize) -> Option<FrontDigits>
+    requires within { from ≤ length bytes.now }
+    ensures within { IfSome result (λ front. (from < front.end) × (front.end < length bytes.now)) }
+    ensures value { IfSome result (λ front. (natural_of (slice_range bytes.now from front.end) ≡ Some front.number) × (front.number < 2 ^ 63)) }
+{
+    if bytes.len() - from < 16 {
+        return None;
+    }
+    let count = digit_count(word_at(bytes, from));
+    if count == 0 {
+        return None;
+    }
+    if count < 8 {
+        let number = counted_digits(bytes, from, count)?;
+        return Some(FrontDigits {
+            number,
+            end: from + count,
+        });
+    }
+    let more = digit_count(word_at(bytes, from + 8));
+    if more == 8 {
+        return None;
+    }
+    let end = from + 8 + more;
+    let number = digits_in(bytes, from, end)?;
+    Some(FrontDigits { number, end })
+}
+
+/// The number that the bytes from a place on spell, with the digits up to the first byte that is none, and a minus before
+/// them if one is there. None where `cast_bigint_in` has to be asked: at a space or a plus, of more than fifteen digits,
+/// and near the bytes' end. A caller finds the end of a field and its number by one look.
+#[inline(always)]
+pub fn bigint_front(bytes: &[u8], from: usize) -> Option<FrontNumber>
+    requires within { from ≤ length bytes.now }
+    ensures within { IfSome result (λ front. (from < front.end) × (front.end < length bytes.now)) }
+    ensures value { IfSome result (λ front. bigint_of (trimmed (slice_range bytes.now from front.end)) ≡ Some front.number) }
+    ensures plain { IfSome result (λ front. list_all is_numeral (slice_range bytes.now from front.end) ≡ true) }
+{
+    if from < bytes.len() && bytes[from] == b'-' {
+        let front = digits_front(bytes, from + 1)?;
+        return Some(FrontNumber {
+            number: negated(front.number),
+            end: front.end,
+        });
+    }
+    let front = digits_front(bytes, from)?;
+    Some(FrontNumber {
+        number: front.number as i64,
+        end: front.end,
+    })
+}
