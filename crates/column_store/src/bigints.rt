@@ -87,6 +87,18 @@ impl Bigints {
         self.numbers.push_some(number, roomy)
     }
 
+    /// Appends a number. `roomy` says that there is room for it.
+    #[inline(always)]
+    pub(crate) fn push_number(&mut self, number: i64, roomy: bool) -> Result<(), NoMemory>
+        requires { roomy ≡ true → length (options self.old.numbers) < room self.old.numbers }
+        ensures ok { OnOk result (options self.new.numbers ≡ options self.old.numbers ++ Some number ∷ []) }
+        ensures err { OnErr result (options self.new.numbers ≡ options self.old.numbers) }
+        ensures room { room self.old.numbers ≤ room self.new.numbers }
+    {
+        self.numbers.push_some(Some(number), roomy)?;
+        Ok(())
+    }
+
     pub(crate) fn append(&mut self, other: &Bigints) -> Result<(), NoMemory>
         ensures ok { OnOk result (options self.new.numbers ≡ options self.old.numbers ++ options other.now.numbers) }
         ensures err { OnErr result (options self.new.numbers ≡ options self.old.numbers) }

@@ -1,7 +1,9 @@
 // A chunk of rows.
-ghost use Rattle.std.specs.Prelude.{◌≡◌, ◌≤◌, ◌<◌, ◌+◌, ◌-◌, ◌++◌, ◌∷◌, ◌^◌, [], is_some, length, slice_range, take, IfOk, IsTrue, OnErr, OnOk, Some};
+ghost use Rattle.std.specs.Prelude.{◌≡◌, ◌≤◌, ◌<◌, ◌+◌, ◌-◌, ◌++◌, ◌∷◌, ◌^◌, [], is_some, length, slice_get, slice_range, take, IfOk, IsTrue, OnErr, OnOk, Some};
 ghost use Rattle.std.specs.Option.{option_to_list};
-ghost use Rattle.value_types.specs.Datum.{datum_of};
+ghost use Rattle.value_types.specs.Datum.{datum_of, typed};
+ghost use Rattle.value_types.specs.declared.types.ColumnType.TheVariants.{Bigint};
+ghost use Rattle.value_types.specs.declared.types.Value.TheVariants.{Int};
 ghost use Rattle.value_types.specs.OfType.{fit_all};
 ghost use Rattle.column_store.specs.NextCell.{spelled_cell};
 ghost use Rattle.column_store.specs.RowsOfColumns.{FitsColumn, HasNoTexts};
@@ -99,6 +101,19 @@ impl Chunk {
         ensures err { OnErr result (self.new ≡ self.old) }
     {
         self.columns[self.begun].push(cell)?;
+        self.begun += 1;
+        Ok(())
+    }
+
+    /// Appends a number to the row under way, whose next column is BIGINT.
+    #[inline(always)]
+    pub fn push_bigint(&mut self, number: i64) -> Result<(), NoMemory>
+        requires next { slice_get self.old.types (length self.old.unfinished) ≡ Some Bigint }
+        ensures ok { OnOk result (self.new ≡ record self.old { unfinished = self.old.unfinished ++ typed (Int number) ∷ [] }) }
+        ensures err { OnErr result (self.new ≡ self.old) }
+    {
+        let roomy = self.spare > 0;
+        self.columns[self.begun].push_bigint(number, roomy)?;
         self.begun += 1;
         Ok(())
     }
