@@ -1,7 +1,9 @@
 mod cells;
 mod extents;
 mod files;
+mod fronts;
 mod lists;
+mod next_cells;
 mod numbers;
 mod report;
 mod sources;

@@ -11,7 +11,7 @@ const FROM: usize = 3;
 const END: usize = 23;
 
 /// What the first of the twenty digits spell, by their count less one.
-const FRONTS: [i64; 19] = [
+pub const FRONTS: [i64; 19] = [
     1,
     12,
     123,

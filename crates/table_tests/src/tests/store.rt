@@ -135,35 +135,3 @@ fn an_unfinished_row_is_taken_back(rt: HostRuntime) -> Result<(), NoMemory> {
     assert!(rt; is_null(table.cell_at(1, 0)));
     Ok(())
 }
-
-/// Whether a text can be cast into a column of this type.
-fn spells(alloc: Global, ty: ColumnType, text: &[u8]) -> Result<bool, NoMemory> {
-    let mut types = Types::new(alloc);
-    types.push(ty)?;
-    let mut chunk = Chunk::new(alloc, &types)?;
-    chunk.push_spelled(text, 0, text.len())
-}
-
-/// A column's type, a text, and whether it can be cast.
-struct Spelled(ColumnType, &'static str, bool);
-
-const SPELLED: [Spelled; 9] = [
-    Spelled(ColumnType::Boolean, "TRUE", true),
-    Spelled(ColumnType::Bigint, " -12 ", true),
-    Spelled(ColumnType::Bigint, "9223372036854775808", false),
-    Spelled(ColumnType::Date, "2024-02-29", true),
-    Spelled(ColumnType::Date, "2023-02-29", false),
-    Spelled(ColumnType::Time, "23:59:59.5", true),
-    Spelled(ColumnType::Time, "2024-02-29 23:59:59", false),
-    Spelled(ColumnType::Timestamp, "2024-02-29 23:59:59", true),
-    Spelled(ColumnType::Varchar, "", true),
-];
-
-#[test]
-fn texts_are_cast_by_their_columns(rt: HostRuntime) -> Result<(), NoMemory> {
-    for row in &SPELLED {
-        let can_be = spells(rt.alloc(), row.0, row.1.as_bytes())?;
-        assert!(rt; can_be == row.2, "{}", row.1);
-    }
-    Ok(())
-}
