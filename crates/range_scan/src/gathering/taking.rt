@@ -1,0 +1,123 @@
+// The next line of a span is taken.
+ghost use Rattle.std.specs.Prelude.{◌≡◌, ◌≤◌, ◌+◌, length, IfOk, IfSome, None, OnOk};
+ghost use Rattle.quote_automaton.specs.RowEnd.{row_len};
+ghost use Rattle.range_scan.specs.NumberRows.{Knows};
+ghost use Rattle.range_scan.specs.Steps.{lines_before, verdict_on, CanTake, Gathers, GathersLine};
+
+use crate::context::Context;
+use crate::gathering::Gathering;
+use crate::known::Known;
+use crate::number_rows::push_numbers;
+use crate::pushing::push_row;
+use csv_source::NoMemory;
+use quote_automaton::begins_comment;
+use row_fields::comment_end;
+
+/// After so many rows of a span that weren't plain numbers none is tried as one any more.
+const MOST_MISSES: u32 = 64;
+
+impl Gathering {
+    /// Appends the row that begins at a place where it is tried as one of plain numbers and is one, and answers its end.
+    #[inline(always)]
+    fn take_numbers(
+        &mut self,
+        context: &Context,
+        bytes: &[u8],
+        base: u64,
+        at: usize,
+        known: Known,
+    ) -> Result<Option<usize>, NoMemory>
+        requires ready { CanTake context.now bytes.now base at self.old }
+        requires known { Knows context.now bytes.now at known }
+        requires within { known.text_to ≤ length bytes.now }
+        ensures ok { IfOk result (λ row. IfSome row (λ end. (end ≡ at + row_len context.now.dialect bytes.now at) × (end ≤ length bytes.now) × (self.new.book ≡ self.old.book))) }
+        ensures value { IfOk result (λ row. IfSome row (λ end. Gathers (verdict_on context.now bytes.now base (lines_before self.old bytes.now at) at) bytes.now at self.old self.new)) }
+        ensures none { IfOk result (λ row. row ≡ None → self.new ≡ record self.old { misses = self.new.misses }) }
+    {
+        if !known.of_numbers || self.misses >= MOST_MISSES {
+            return Ok(None);
+        }
+        match push_numbers(&mut self.chunk, context, bytes, at)? {
+            Some(end) => Ok(Some(end)),
+            None => {
+                self.misses += 1;
+                Ok(None)
+            }
+        }
+    }
+
+    /// Reads the fields of the row that begins at a place, keeps it or its faults, and answers its end.
+    fn take_fields(
+        &mut self,
+        context: &Context,
+        bytes: &[u8],
+        base: u64,
+        at: usize,
+        known: Known,
+    ) -> Result<usize, NoMemory>
+        requires ready { CanTake context.now bytes.now base at self.old }
+        requires known { Knows context.now bytes.now at known }
+        requires within { known.text_to ≤ length bytes.now }
+        ensures ok { IfOk result (λ end. end ≡ at + row_len context.now.dialect bytes.now at) }
+        ensures value { OnOk result (Gathers (verdict_on context.now bytes.now base (lines_before self.old bytes.now at) at) bytes.now at self.old self.new) }
+        ensures within { IfOk result (λ end. (end ≤ length bytes.now) × (self.new.book.all ≤ end + 1)) }
+    {
+        let end = self.fields.read_row(&context.dialect, bytes, at)?;
+        let faults = push_row(
+            &mut self.chunk,
+            &context.schema,
+            &bytes[at..end],
+            &self.fields,
+            end <= known.text_to,
+        )?;
+        if faults == 0 {
+            return Ok(end);
+        }
+        self.book_faults(context, bytes, base, at, end, faults)?;
+        Ok(end)
+    }
+
+    /// Reads the row that begins at a place, keeps it or its faults, and answers its end.
+    fn take_row(
+        &mut self,
+        context: &Context,
+        bytes: &[u8],
+        base: u64,
+        at: usize,
+        known: Known,
+    ) -> Result<usize, NoMemory>
+        requires ready { CanTake context.now bytes.now base at self.old }
+        requires known { Knows context.now bytes.now at known }
+        requires within { known.text_to ≤ length bytes.now }
+        ensures ok { IfOk result (λ end. end ≡ at + row_len context.now.dialect bytes.now at) }
+        ensures value { OnOk result (Gathers (verdict_on context.now bytes.now base (lines_before self.old bytes.now at) at) bytes.now at self.old self.new) }
+        ensures within { IfOk result (λ end. (end ≤ length bytes.now) × (self.new.book.all ≤ end + 1)) }
+    {
+        match self.take_numbers(context, bytes, base, at, known)? {
+            Some(end) => Ok(end),
+            None => self.take_fields(context, bytes, base, at, known),
+        }
+    }
+
+    /// Reads the line that begins at a place, and answers its end. A row or its faults are kept, and a comment is passed over.
+    pub fn take_line(
+        &mut self,
+        context: &Context,
+        bytes: &[u8],
+        base: u64,
+        at: usize,
+        known: Known,
+    ) -> Result<usize, NoMemory>
+        requires ready { CanTake context.now bytes.now base at self.old }
+        requires known { Knows context.now bytes.now at known }
+        requires within { known.text_to ≤ length bytes.now }
+        ensures ok { IfOk result (λ end. end ≡ at + row_len context.now.dialect bytes.now at) }
+        ensures value { OnOk result (GathersLine context.now bytes.now base at self.old self.new) }
+        ensures within { IfOk result (λ end. (end ≤ length bytes.now) × (self.new.book.all ≤ end + 1)) }
+    {
+        if begins_comment(&context.dialect, &bytes[at..]) {
+            return Ok(comment_end(&context.dialect, bytes, at));
+        }
+        self.take_row(context, bytes, base, at, known)
+    }
+}
