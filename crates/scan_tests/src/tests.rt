@@ -5,6 +5,7 @@ mod chain;
 mod classes;
 mod dialects;
 mod guesses;
+mod numbers;
 mod ranges;
 mod rejects;
 mod rows;

@@ -49,11 +49,23 @@ fn context(alloc: Global, dialect: Dialect, first: ColumnType) -> Result<Context
 
 /// The rows and the rejects of ranges so far, the line ends, and the state at their end.
 #[derive(Drop)]
-struct Shown {
-    rows: Vec<u8>,
-    rejects: Vec<u8>,
+pub struct Shown {
+    pub rows: Vec<u8>,
+    pub rejects: Vec<u8>,
     line_ends: u64,
     end: State,
+}
+
+impl Shown {
+    /// No range yet.
+    pub fn new(alloc: Global) -> Shown {
+        Shown {
+            rows: Vec::new(alloc),
+            rejects: Vec::new(alloc),
+            line_ends: 0,
+            end: State::RowStart,
+        }
+    }
 }
 
 fn push_rows(table: &Table, out: &mut Vec<u8>) -> Result<(), NoMemory> {
@@ -86,7 +98,7 @@ fn push_part(part: Part, shown: &mut Shown) -> Result<(), NoMemory> {
 }
 
 // The ranges of a text, whose first byte stands at place 100 of the input.
-fn scan_ranges(
+pub fn scan_ranges(
     alloc: Global,
     context: &Context,
     text: &[u8],
@@ -122,12 +134,7 @@ fn scanned(
     requires some { 1 ≤ size }
 {
     let context = context(alloc, dialect, first)?;
-    let mut shown = Shown {
-        rows: Vec::new(alloc),
-        rejects: Vec::new(alloc),
-        line_ends: 0,
-        end: State::RowStart,
-    };
+    let mut shown = Shown::new(alloc);
     scan_ranges(alloc, &context, text, size, &mut shown)?;
     Ok(shown)
 }
