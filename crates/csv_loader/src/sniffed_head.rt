@@ -25,8 +25,8 @@ pub struct SniffedHead {
     pub head: InputWindow,
 }
 
-/// Whether more of the input is read while its sample is looked at: one worker reads little at a time, and a pipeline has a
-/// thread of its own that reads.
+/// Whether more of the input is read while its sample is looked at: one worker reads little at a time, and the caller of a
+/// pipeline reads on beside its stages from the first window.
 fn reads_on(options: &Options, head: &InputWindow) -> bool
     ensures { IsTrue result → head.now.ended ≡ false }
 {

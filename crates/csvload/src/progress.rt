@@ -91,9 +91,9 @@ impl<'a, R: Clock + Eprint + Files + AllocGlobal> ProgressLine<'a, R> {
     }
 }
 
-/// Files, and a line that shows how much of the open one was read. No more than the window behind the scanned one is read
-/// ahead, so what was scanned is at most two windows behind; with `pipeline=true`, whose reading waits for no scan, it may be
-/// further.
+/// Files, and a line that shows how much of the open one was read. What was scanned is behind that: by the window under
+/// scan and, with several workers, by the next one, which is read meanwhile; with `pipeline=true`, whose reading waits for no
+/// scan, it may be further.
 #[derive(Drop)]
 pub struct ProgressSource<'a, R, S> {
     files: S,
