@@ -156,8 +156,10 @@ def tools(file, start, shape, threads, args):
             made.append(Tool(name, kind, threads, argv, stdin, most_mb, count))
 
     for n in threads:
+        words = ["threads=%d" % n] + ["types=BIGINT,BOOLEAN,DATE,VARCHAR", "store_rejects=true"] * faulty
+        if args.before:
+            add("before summary", "ours", [args.before, "summary", file] + words, r"(?m)^rows\|(\d+)$", n)
         if args.csvload:
-            words = ["threads=%d" % n] + ["types=BIGINT,BOOLEAN,DATE,VARCHAR", "store_rejects=true"] * faulty
             add("csvload summary", "ours", [args.csvload, "summary", file] + words, r"(?m)^rows\|(\d+)$", n)
             add("csvload load", "ours-print", [args.csvload, "load", file] + words, None, n)
         for package, name, call in (
@@ -272,6 +274,7 @@ def scaling(args):
 def main():
     p = argparse.ArgumentParser(description=__doc__, formatter_class=argparse.RawDescriptionHelpFormatter)
     p.add_argument("--csvload", help="our program")
+    p.add_argument("--before", help="an earlier build of it, measured in the same run")
     p.add_argument("--reps", type=int, default=5)
     p.add_argument("--only", help="tools whose name has one of these words")
     p.add_argument("--scaling", action="store_true")
@@ -279,8 +282,9 @@ def main():
                         ("work", os.path.join(tempfile.gettempdir(), "csvbench")), ("rust", os.path.join(tempfile.gettempdir(), "csvbench/rust/release/rustcsv"))):
         p.add_argument("--" + name, default=value)
     args = p.parse_args()
-    if args.csvload and not shutil.which(args.csvload):
-        p.error("no program " + args.csvload)
+    for program in filter(None, (args.csvload, args.before)):
+        if not shutil.which(program):
+            p.error("no program " + program)
     signal.signal(signal.SIGTERM, lambda *_: exit(1))       # so that the server is stopped
     os.makedirs(args.work, exist_ok=True)
     if shutil.which("cargo") and os.path.exists("/usr/share/cargo/registry") and not os.path.exists(args.rust):
