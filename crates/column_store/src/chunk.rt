@@ -85,6 +85,7 @@ impl Chunk {
     }
 
     /// The cell of a column and a finished row, both counted from 0.
+    #[inline(always)]
     pub fn cell_at(&self, column: usize, row: usize) -> Cell<'_>
         requires column { column < length self.now.types }
         requires row { row < length self.now.rows }

@@ -45,6 +45,7 @@ impl Column {
     }
 
     /// The cell of a row, counted from 0.
+    #[inline(always)]
     pub(crate) fn get(&self, row: usize) -> Cell<'_>
         requires { row < length (cells_of self.now) }
         ensures { slice_get (cells_of self.now) row ≡ Some (datum_of result) }

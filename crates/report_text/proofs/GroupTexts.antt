@@ -1,5 +1,5 @@
 -- Groups of rows, and their texts in order.
-use Rattle.std.proofs.Common.{◌≡◌, ℕ, suc, ◌+◌, ◌-◌, ◌/◌, ◌<◌, ◌≤◌, true, List, [], ◌∷◌, ◌++◌, length, take, drop, get_or, refl, sym, ◌∙◌, ap, subst, arith}
+use Rattle.std.proofs.Common.{◌≡◌, ℕ, suc, ◌+◌, ◌-◌, ◌/◌, ◌<◌, ◌≤◌, true, false, Bool, not, List, [], ◌∷◌, ◌++◌, length, take, drop, get_or, refl, sym, ◌∙◌, ap, subst, arith}
 use Rattle.std.specs.Prelude.{All, flat_map, slice_range}
 use Rattle.std.proofs.lemmas.List.{drop-drop}
 use Rattle.std.proofs.lemmas.List.Elements.{All-append, All-cons, All-nil}
@@ -25,6 +25,10 @@ pub All-more : {X : Type 0} (P : X → Type 0) (xs new : List X) (x : X) → new
 All-more P xs new x is all one = subst (All P) (sym is) (All-append P xs (x ∷ []) all (All-cons P x [] one (All-nil P)))
 
 -- ---- joining
+
+pub not_false : (t : Bool) → not t ≡ false → t ≡ true
+not_false true is = refl
+not_false false is = absurd (let no : ⊥ = cc in no)
 
 range-split : (rows : List (List Datum)) (from mid to : ℕ) → from ≤ mid → mid ≤ to → slice_range rows from mid ++ slice_range rows mid to ≡ slice_range rows from to
 range-split rows from mid to low high =

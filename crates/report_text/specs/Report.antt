@@ -1,5 +1,5 @@
 -- The whole text of a report (this loader's profile).
-use Rattle.std.specs.Prelude.{ℕ, if◌then◌else◌, Bool, Option, List, [], ◌++◌, length, flat_map}
+use Rattle.std.specs.Prelude.{ℕ, if◌then◌else◌, Bool, true, false, Option, List, [], ◌++◌, length, flat_map}
 use Rattle.std.specs.Option.{option_map_or}
 use Rattle.csv_sniffer.specs.declared.found.Sniffed.{Sniffed}
 use Rattle.file_list.specs.BatchView.{BatchView}
@@ -30,11 +30,26 @@ closing_lines l further =
 abbrev pub loaded_lines : Loaded → List ℕ → List ℕ → List ℕ
 loaded_lines l on_rows further = found_lines l.sniffed ++ on_rows ++ closing_lines l further
 
--- several files: what was found in the first one, the rows, the rejects where they are stored, their numbers, and the stats
+-- several files: the number of rows, the rejects where they are stored, their numbers, and the stats
+abbrev pub batch_closing : Sniffed → BatchView → Bool → Option Stats → List ℕ
+batch_closing s batch store stats =
+    rows_line (length batch.rows) ++ scan_lines s store batch.files ++ errors_line (stored_in store batch.files) (all_in batch.files)
+    ++ option_map_or stats_line stats []
+
+-- several files: what was found in the first one, the rows, and what stands behind them
 abbrev pub batch_lines : Sniffed → BatchView → Bool → Option Stats → List ℕ
-batch_lines s batch store stats =
-    found_lines s ++ flat_map row_line batch.rows ++ rows_line (length batch.rows) ++ scan_lines s store batch.files
-    ++ errors_line (stored_in store batch.files) (all_in batch.files) ++ option_map_or stats_line stats []
+batch_lines s batch store stats = found_lines s ++ flat_map row_line batch.rows ++ batch_closing s batch store stats
+
+-- whether the rows of a table stand in the report
+abbrev pub has_rows : Outcome → Bool
+has_rows (outcome.Refused fault word) = false
+has_rows outcome.ReadFault = false
+has_rows (outcome.TooLarge limit) = false
+has_rows (outcome.Sniffed s) = false
+has_rows (outcome.Loaded l) = true
+has_rows (outcome.Summary l tap_lines) = false
+has_rows (outcome.Batch s batch store stats) = true
+has_rows (outcome.FirstError s reject) = false
 
 abbrev pub report_of : Outcome → List ℕ
 report_of (outcome.Refused fault word) = refused_line fault word

@@ -2,7 +2,7 @@
 ghost use Rattle.std.specs.Prelude.{◌≡◌, ◌+◌, ◌++◌, IfOk, OnOk};
 ghost use Rattle.report_text.specs.BatchReport.{all_in, scan_lines, scans_from, stored_in};
 ghost use Rattle.report_text.specs.Printable.{IsPrintableBatch};
-ghost use Rattle.report_text.specs.Report.{batch_lines};
+ghost use Rattle.report_text.specs.Report.{batch_closing, batch_lines};
 
 use crate::Stats;
 use crate::found::push_found;
@@ -14,6 +14,7 @@ use csv_sniffer::Sniffed;
 use csv_source::NoMemory;
 use file_list::Batch;
 use std::thread::Threads;
+use text_pieces::Pieces;
 
 /// Appends the scan and the stored rejects of each file, in order.
 fn push_scans(into: &mut Vec<u8>, sniffed: &Sniffed, batch: &Batch) -> Result<(), NoMemory>
@@ -73,22 +74,39 @@ fn all_in(batch: &Batch) -> Result<u64, NoMemory>
     Ok(count)
 }
 
-/// Appends several loaded files with their rows, under what was found in the first one.
-pub(crate) fn push_batch<R: Threads + Sync>(
-    workers: &Workers<'_, R>,
+/// Appends what stands behind the rows of several loaded files.
+fn push_batch_closing(
     into: &mut Vec<u8>,
     sniffed: &Sniffed,
     batch: &Batch,
     store: bool,
     stats: &Option<Stats>,
 ) -> Result<(), NoMemory>
-    requires { IsPrintableBatch sniffed.now batch.now }
-    ensures { OnOk result (into.new.items ≡ into.old.items ++ batch_lines sniffed.now batch.now store stats.now) }
+    ensures { OnOk result (into.new.items ≡ into.old.items ++ batch_closing sniffed.now batch.now store stats.now) }
 {
-    push_found(into, sniffed)?;
-    push_table(workers, into, batch.table())?;
     push_row_count(into, batch.table().rows())?;
     push_scans_if(into, sniffed, store, batch)?;
     push_errors(into, stored_in(store, batch)?, all_in(batch)?)?;
     push_stats_of(into, stats)
+}
+
+/// Appends several loaded files with their rows, under what was found in the first one.
+pub(crate) fn push_batch<R: Threads + Sync>(
+    workers: &Workers<'_, R>,
+    into: &mut Pieces,
+    sniffed: &Sniffed,
+    batch: &Batch,
+    store: bool,
+    stats: &Option<Stats>,
+) -> Result<(), NoMemory>
+    requires { IsPrintableBatch sniffed.now batch.now }
+    ensures { OnOk result (into.new ≡ into.old ++ batch_lines sniffed.now batch.now store stats.now) }
+{
+    let mut head = Vec::new(workers.alloc);
+    push_found(&mut head, sniffed)?;
+    into.push(head)?;
+    push_table(workers, into, batch.table())?;
+    let mut tail = Vec::new(workers.alloc);
+    push_batch_closing(&mut tail, sniffed, batch, store, stats)?;
+    into.push(tail)
 }

@@ -9,6 +9,7 @@ use csv_source::NoMemory;
 use std::alloc::Global;
 use std::thread;
 use std::thread::Threads;
+use text_pieces::Pieces;
 
 /// The rows from `from` to before `to`, and their lines once they are rendered.
 #[derive(Drop)]
@@ -79,26 +80,16 @@ pub(crate) fn render_groups<R: Threads + Sync>(
     );
 }
 
-/// How many bytes the texts of groups have, as far as they can be counted.
-fn text_len(groups: &[Group]) -> usize {
-    let mut count: usize = 0;
-    for group in groups {
-        count = count.saturating_add(group.text.len());
-    }
-    count
-}
-
-/// Appends the texts of groups in order, where all were rendered. The room of each is given back once it is appended.
-pub(crate) fn join_groups(into: &mut Vec<u8>, groups: Vec<Group>) -> Result<(), NoMemory>
+/// Appends the texts of groups in order, where all were rendered. None is copied but a short one.
+pub(crate) fn push_groups(into: &mut Pieces, groups: Vec<Group>) -> Result<(), NoMemory>
     ensures rendered { OnOk result (All (λ group. group.rendered ≡ true) groups.items) }
-    ensures ok { OnOk result (into.new.items ≡ into.old.items ++ flat_map (λ group. group.text.items) groups.items) }
+    ensures ok { OnOk result (into.new ≡ into.old ++ flat_map (λ group. group.text.items) groups.items) }
 {
-    into.reserve(text_len(&groups))?;
     for group in groups {
         if !group.rendered {
             return Err(NoMemory);
         }
-        into.extend_from_slice(&group.text)?;
+        into.push(group.text)?;
     }
     Ok(())
 }

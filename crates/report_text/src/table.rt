@@ -3,12 +3,12 @@ ghost use Rattle.std.specs.Prelude.{◌≡◌, ◌<◌, ◌++◌, flat_map, All,
 ghost use Rattle.report_text.specs.Lines.{row_line};
 ghost use Rattle.report_text.specs.PrintableRows.{IsPrintableRow};
 
-use crate::groups::{cut_rows, join_groups, render_groups};
-use crate::rows::push_rows;
+use crate::groups::{cut_rows, push_groups, render_groups};
 use crate::workers::Workers;
 use column_store::Table;
 use csv_source::NoMemory;
 use std::thread::Threads;
+use text_pieces::Pieces;
 
 /// With fewer rows than that one worker is done before others are made.
 const MANY_ROWS: usize = 4096;
@@ -27,19 +27,15 @@ fn worker_count(rows: usize, threads: u32) -> usize
 /// Appends the lines of a table's rows.
 pub(crate) fn push_table<R: Threads + Sync>(
     workers: &Workers<'_, R>,
-    into: &mut Vec<u8>,
+    into: &mut Pieces,
     table: &Table,
 ) -> Result<(), NoMemory>
     requires { All (IsPrintableRow table.now.types) table.now.rows }
-    ensures { OnOk result (into.new.items ≡ into.old.items ++ flat_map row_line table.now.rows) }
+    ensures { OnOk result (into.new ≡ into.old ++ flat_map row_line table.now.rows) }
 {
     let rows = table.rows();
     let count = worker_count(rows, workers.threads);
-    // For one worker no thread is made and nothing is copied.
-    if count == 1 {
-        return push_rows(into, table, 0, rows);
-    }
     let mut groups = cut_rows(workers.alloc, rows, count)?;
     render_groups(workers.rt, workers.alloc, table, groups.as_mut_slice());
-    join_groups(into, groups)
+    push_groups(into, groups)
 }

@@ -1,7 +1,7 @@
 // The texts of reports.
-ghost use Rattle.std.specs.Prelude.{◌≡◌, ◌++◌, [], flat_map, length, IfOk, OnOk};
+ghost use Rattle.std.specs.Prelude.{◌≡◌, ◌++◌, [], false, flat_map, length, IfOk, OnOk};
 ghost use Rattle.report_text.specs.Lines.{error_line, row_line};
-ghost use Rattle.report_text.specs.Report.{closing_lines, found_lines, loaded_lines, report_of};
+ghost use Rattle.report_text.specs.Report.{closing_lines, found_lines, has_rows, loaded_lines, report_of};
 ghost use Rattle.report_text.specs.Printable.{IsPrintable, IsPrintableLoad};
 
 use crate::batch::push_batch;
@@ -9,16 +9,15 @@ use crate::faults::{push_read_fault, push_refused, push_too_large};
 use crate::found::push_found;
 use crate::lines::{push_errors, push_row_count, push_stats_of};
 use crate::rejects::{push_reject, push_rejects, stored_count};
-use crate::rows::rows_room;
 use crate::table::push_table;
 use crate::workers::Workers;
 use crate::{Loaded, Outcome};
-use column_store::Table;
 use csv_sniffer::Sniffed;
 use csv_source::NoMemory;
 use reject_book::Reject;
 use std::alloc::Global;
 use std::thread::Threads;
+use text_pieces::Pieces;
 
 /// Appends what stands behind the lines on the rows.
 fn push_closing(into: &mut Vec<u8>, loaded: &Loaded, further: &[u8]) -> Result<(), NoMemory>
@@ -34,15 +33,19 @@ fn push_closing(into: &mut Vec<u8>, loaded: &Loaded, further: &[u8]) -> Result<(
 /// Appends a loaded file with its rows.
 fn push_loaded<R: Threads + Sync>(
     workers: &Workers<'_, R>,
-    into: &mut Vec<u8>,
+    into: &mut Pieces,
     loaded: &Loaded,
 ) -> Result<(), NoMemory>
     requires { IsPrintableLoad loaded.now }
-    ensures { OnOk result (into.new.items ≡ into.old.items ++ loaded_lines loaded.now (flat_map row_line loaded.now.table.rows) []) }
+    ensures { OnOk result (into.new ≡ into.old ++ loaded_lines loaded.now (flat_map row_line loaded.now.table.rows) []) }
 {
-    push_found(into, &loaded.sniffed)?;
+    let mut head = Vec::new(workers.alloc);
+    push_found(&mut head, &loaded.sniffed)?;
+    into.push(head)?;
     push_table(workers, into, &loaded.table)?;
-    push_closing(into, loaded, &[])
+    let mut tail = Vec::new(workers.alloc);
+    push_closing(&mut tail, loaded, &[])?;
+    into.push(tail)
 }
 
 /// Appends a loaded file with the lines of taps in place of its rows.
@@ -63,13 +66,10 @@ fn push_first_error(into: &mut Vec<u8>, sniffed: &Sniffed, reject: &Reject) -> R
     push_reject(into, reject)
 }
 
-/// Appends the text of a report.
-fn push_report<R: Threads + Sync>(
-    workers: &Workers<'_, R>,
-    into: &mut Vec<u8>,
-    outcome: &Outcome,
-) -> Result<(), NoMemory>
-    requires { IsPrintable outcome.now }
+/// Appends the text of a report that has no rows.
+fn push_short(into: &mut Vec<u8>, outcome: &Outcome) -> Result<(), NoMemory>
+    requires printable { IsPrintable outcome.now }
+    requires short { has_rows outcome.now ≡ false }
     ensures { OnOk result (into.new.items ≡ into.old.items ++ report_of outcome.now) }
 {
     match outcome {
@@ -77,26 +77,9 @@ fn push_report<R: Threads + Sync>(
         Outcome::ReadFault => push_read_fault(into),
         Outcome::TooLarge(limit) => push_too_large(into, *limit),
         Outcome::Sniffed(sniffed) => push_found(into, sniffed),
-        Outcome::Loaded(loaded) => push_loaded(workers, into, loaded),
         Outcome::Summary(loaded, taps) => push_summary(into, loaded, taps.as_slice()),
-        Outcome::Batch(sniffed, batch, store, stats) => {
-            push_batch(workers, into, sniffed, batch, *store, stats)
-        }
         Outcome::FirstError(sniffed, reject) => push_first_error(into, sniffed, reject),
-    }
-}
-
-/// About how many bytes a report of a table takes.
-fn table_room(table: &Table) -> usize {
-    rows_room(table.rows(), table.columns()).saturating_add(4096)
-}
-
-/// About how many bytes a report takes.
-fn report_room(outcome: &Outcome) -> usize {
-    match outcome {
-        Outcome::Loaded(loaded) => table_room(&loaded.table),
-        Outcome::Batch(_, batch, ..) => table_room(batch.table()),
-        _ => 4096,
+        Outcome::Loaded(_) | Outcome::Batch(..) => unreachable!(),
     }
 }
 
@@ -106,13 +89,22 @@ pub fn render<R: Threads + Sync>(
     alloc: Global,
     outcome: &Outcome,
     threads: u32,
-) -> Result<Vec<u8>, NoMemory>
+) -> Result<Pieces, NoMemory>
     requires { IsPrintable outcome.now }
-    ensures { IfOk result (λ text. text.items ≡ report_of outcome.now) }
+    ensures { IfOk result (λ text. text ≡ report_of outcome.now) }
 {
-    let mut text = Vec::new(alloc);
-    // Where so much can't be had at once, the text may still grow into less.
-    let _ = text.reserve(report_room(outcome));
-    push_report(&Workers { rt, alloc, threads }, &mut text, outcome)?;
+    let workers = Workers { rt, alloc, threads };
+    let mut text = Pieces::new(alloc);
+    match outcome {
+        Outcome::Loaded(loaded) => push_loaded(&workers, &mut text, loaded)?,
+        Outcome::Batch(sniffed, batch, store, stats) => {
+            push_batch(&workers, &mut text, sniffed, batch, *store, stats)?;
+        }
+        _ => {
+            let mut short = Vec::new(alloc);
+            push_short(&mut short, outcome)?;
+            text.push(short)?;
+        }
+    }
     Ok(text)
 }

@@ -5,6 +5,7 @@ mod fronts;
 mod lists;
 mod next_cells;
 mod numbers;
+mod pieces;
 mod report;
 mod sources;
 mod store;

@@ -5,6 +5,7 @@ ghost use Rattle.value_types.specs.OfType.{fit_all};
 ghost use Rattle.value_types.specs.Spelled.{IsSpelledCell};
 ghost use Rattle.report_text.specs.Printable.{IsPrintable, IsPrintableLoad};
 
+use super::pieces::is_text;
 use super::tables::{number, push, two_types};
 use byte_classes::Dialect;
 use column_store::Table;
@@ -190,7 +191,7 @@ fn joined(alloc: Global, parts: &[&[u8]]) -> Result<Vec<u8>, NoMemory> {
 fn is_rendered<R: Threads + Sync>(rt: &R, alloc: Global, row: &Report) -> Result<bool, NoMemory> {
     let outcome = outcome(alloc, row.0)?;
     let text = render(rt, alloc, &outcome, 4)?;
-    Ok(text.as_slice() == joined(alloc, row.1)?.as_slice())
+    is_text(alloc, &text, &joined(alloc, row.1)?)
 }
 
 #[test]

@@ -4,6 +4,7 @@ ghost use Rattle.value_types.specs.declared.types.ColumnType.TheVariants as colu
 ghost use Rattle.value_types.specs.OfType.{fit_all};
 ghost use Rattle.value_types.specs.Spelled.{IsSpelledCell};
 
+use super::pieces::is_text;
 use super::tables::{number, push, two_types};
 use column_store::Table;
 use csv_source::NoMemory;
@@ -93,7 +94,7 @@ fn a_table_is_written_whatever_the_threads(rt: HostRuntime) -> Result<(), NoMemo
     let expected = two_chunks_text(alloc)?;
     for threads in 1..=64u32 {
         let text = write_table(&rt, alloc, &names, &table, threads)?;
-        assert!(rt; text.as_slice() == expected.as_slice());
+        assert!(rt; is_text(alloc, &text, &expected)?);
     }
     Ok(())
 }
@@ -115,6 +116,6 @@ fn a_table_of_no_rows_has_a_line_of_names(rt: HostRuntime) -> Result<(), NoMemor
     let alloc = rt.alloc();
     let table = Table::new(alloc, &two_types(alloc)?)?;
     let text = write_table(&rt, alloc, &names(alloc)?, &table, 4)?;
-    assert!(rt; text.as_slice() == NAMES);
+    assert!(rt; is_text(alloc, &text, NAMES)?);
     Ok(())
 }

@@ -1,11 +1,11 @@
 use Rattle.std.proofs.Common.{◌≡◌, ◌++◌, true}
 use Rattle.std.specs.Prelude.{All, flat_map}
 use Rattle.report_text.specs.declared.groups.Group.{Group}
-use Rattle.report_text.proofs.groups.join_groups.Given as goal
+use Rattle.report_text.proofs.groups.push_groups.Given as goal
 
 abbrev pub invariant-loop-group : goal.invariant-loop-group
 invariant-loop-group l = record {
   all : l.yielded ++ l.group-iterator.rest.items ≡ l.fn.groups.items;
   rendered : All (λ (group : Group). group.rendered ≡ true) l.yielded;
-  text : l.into.items ≡ l.fn.into.items ++ flat_map (λ (group : Group). group.text.items) l.yielded;
+  text : l.into ≡ l.fn.into ++ flat_map (λ (group : Group). group.text.items) l.yielded;
 }

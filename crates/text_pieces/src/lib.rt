@@ -1,0 +1,7 @@
+//! A text in pieces. Texts that workers made side by side are one text without a copy: its pieces are written one after
+//! another. Short pieces are joined as they come, so that a short text is written at once.
+#![tactic(auto)]
+
+mod pieces;
+
+pub use pieces::Pieces;
