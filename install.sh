@@ -1,5 +1,5 @@
 #!/bin/sh
-# Makes the proved build of csvload, and installs it with its man page and completions.
+# Makes the proved build of csvload, and installs it with its man page, completions, and the scripts that fill databases.
 #
 #     install.sh               into ~/.local
 #     PREFIX=DIR install.sh    into DIR
@@ -28,6 +28,8 @@ put() {
     echo "$prefix/$2"
 }
 put crates/csvload/out/csvload bin/csvload 755
+put examples/sqlite.py bin/csvload-sqlite 755
+put examples/postgres.sh bin/csvload-postgres 755
 put docs/csvload.1 share/man/man1/csvload.1 644
 put completions/csvload.bash share/bash-completion/completions/csvload 644
 put completions/_csvload share/zsh/site-functions/_csvload 644
