@@ -100,12 +100,10 @@ def input_trials() -> list[Trial]:
 def piece_trials() -> list[Trial]:
     """Short reads and writes: the text is the same."""
     trials = []
-    for piece, way in itertools.product((7, 65_537), WAYS):
-        line = f"PIECE={piece} LD_PRELOAD=./pieces.so csvload load whole.csv {RANGES} {way}"
-        trials.append(Trial("short reads and writes", line, 0, WHOLE))
-    for way in WAYS:
-        line = f"PIECE=3 LD_PRELOAD=./pieces.so csvload load part.csv {RANGES} {way}"
-        trials.append(Trial("short reads and writes", line, 0, PART))
+    pieces = ((3, "part", PART), (7, "part", PART), (997, "whole", WHOLE), (65_537, "whole", WHOLE))
+    for (piece, file, text), way in itertools.product(pieces, WAYS):
+        line = f"PIECE={piece} LD_PRELOAD=./pieces.so csvload load {file}.csv {RANGES} {way}"
+        trials.append(Trial("short reads and writes", line, 0, text))
     line = "PIECE=7 LD_PRELOAD=./pieces.so csvload convert part.csv"
     trials.append(Trial("short reads and writes", line, 0, table(FEWER_ROWS)))
     return trials

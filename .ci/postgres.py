@@ -107,10 +107,10 @@ def another_user() -> pwd.struct_passwd:
 
 
 def programs_of_server() -> pathlib.Path | None:
-    """The newest server that is installed."""
-    found = glob.glob("/usr/lib/postgresql/*/bin/initdb") or [shutil.which("initdb") or ""]
-    folder = pathlib.Path(max(found, key=len)).resolve().parent
-    return folder if (folder / "initdb").is_file() and (folder / "postgres").is_file() else None
+    """Where a server's programs lie; Debian has them beside PATH."""
+    found = [shutil.which("initdb"), *glob.glob("/usr/lib/postgresql/*/bin/initdb")]
+    folders = [pathlib.Path(initdb).resolve().parent for initdb in found if initdb]
+    return next((folder for folder in folders if (folder / "postgres").is_file()), None)
 
 
 def check_hard_rows(server: Server) -> None:
