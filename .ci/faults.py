@@ -20,10 +20,10 @@ from typing import NamedTuple
 PROGRAM = os.environ["CSVLOAD"]
 PRELOAD = pathlib.Path(__file__).parent / "preload"
 
-# How many seconds a trial may take: each takes about one at most.
-LIMIT = 20
+# How many seconds a trial may take, on a busy machine too: each takes less than one of a processor.
+LIMIT = 60
 
-# Rows of a file that goes on behind the sample of 4 MiB, and of a part of it. `cut` and `grown` have so many at first.
+# Rows of a file that goes on behind the sample of 4 MiB, and of its first part.
 ROWS, FEWER_ROWS = 230_000, 9_000
 
 # So many bytes a range: the rows behind the sample take several groups of them.
@@ -32,8 +32,8 @@ RANGES = "range_size=5000"
 # Ways to share the work.
 WAYS = ("threads=1", "threads=4", "threads=1 pipeline=true", "threads=4 pipeline=true")
 
-# KiB of address space, from what the program can't begin with to what serves some threads.
-MEMORY = range(3_000, 10_000, 1_000)
+# KiB of address space, from what the program can't begin with to what serves several threads.
+MEMORY = (3_000, 4_000, 5_000, 6_000, 8_000, 12_000, 24_000, 48_000, 96_000, 192_000)
 
 # Each call that writes.
 CALLS = [f"{command} short.csv" for command in ("load", "summary", "convert", "batch", "sniff")]
@@ -116,6 +116,9 @@ def fault_trials() -> list[Trial]:
         line = f"PIECE=65537 READ_FAULT={call}:%s LD_PRELOAD=./pieces.so csvload load whole.csv {RANGES} {way}"
         trials.append(Trial("a read that fails", line % "EIO", 2, FAULT))
         trials.append(Trial("a read that is interrupted", line % "EINTR", 0, WHOLE))
+    for fault, status, text in (("EIO", 2, FAULT), ("EINTR", 0, PART)):
+        line = f"PIECE=7 READ_FAULT=3:{fault} LD_PRELOAD=./pieces.so csvload load - <part.csv"
+        trials.append(Trial("a read of standard input that fails", line, status, text))
     for call, way in itertools.product((1, 3), WAYS):
         line = f"PIECE=7 WRITE_FAULT={call}:%s LD_PRELOAD=./pieces.so csvload load part.csv {RANGES} {way}"
         written = PART[: 7 * (call - 1)]
@@ -141,11 +144,13 @@ def change_trials() -> list[Trial]:
 def thread_trials() -> list[Trial]:
     """Threads that can't be made: others do their work."""
     trials = []
-    for refused, threads, way in itertools.product((1, 2, 3, "all"), (1, 2, 4, 64), ("", " pipeline=true")):
+    refusals = ("1", "2", "3", "1-", "2-", "3-", "5-")
+    for refused, threads, way in itertools.product(refusals, (1, 2, 4, 64), ("", " pipeline=true")):
         line = f"REFUSED_THREAD={refused} LD_PRELOAD=./threads.so csvload load whole.csv {RANGES} threads={threads}{way}"
         trials.append(Trial("a thread that is refused", line, 0, WHOLE))
     for way in ("threads=4", "threads=1 pipeline=true"):
-        line = f"rm -f refused; REFUSED_THREAD=1 LD_PRELOAD=./threads.so csvload load part.csv {RANGES} {way}; test -s refused"
+        load = f"REFUSED_THREAD=1 LD_PRELOAD=./threads.so csvload load part.csv {RANGES} {way}"
+        line = f"rm -f refused; {load} && test -s refused"
         trials.append(Trial("a thread is asked for and refused", line, 0, PART))
     return trials
 
@@ -166,11 +171,11 @@ def fill(folder: pathlib.Path) -> None:
     for name, rows in (("short", 3), ("part", FEWER_ROWS), ("whole", ROWS)):
         (folder / f"{name}.csv").write_bytes(table(rows))
     (folder / "folder").mkdir()
-    (folder / "csvload").symlink_to(PROGRAM)
+    (folder / "csvload").symlink_to(pathlib.Path(PROGRAM).absolute())
 
 
-def run(words: list[str], folder: pathlib.Path, standard_input: int = subprocess.DEVNULL) -> tuple[int | None, bytes]:
-    """The status and the text; no status where the run doesn't end, which is then ended with all that it started."""
+def run(words: list[str], folder: pathlib.Path, standard_input: int = subprocess.DEVNULL) -> tuple[int, bytes]:
+    """The status and the text. A run that doesn't end is ended with all that it started, and is the last."""
     path = {"PATH": f"{folder}:{os.environ['PATH']}"}
     how = {"cwd": folder, "env": {**os.environ, **path}, "stdin": standard_input, "start_new_session": True}
     with subprocess.Popen(words, stdout=subprocess.PIPE, stderr=subprocess.DEVNULL, **how) as started:
@@ -178,7 +183,7 @@ def run(words: list[str], folder: pathlib.Path, standard_input: int = subprocess
             text, _ = started.communicate(timeout=LIMIT)
         except subprocess.TimeoutExpired:
             os.killpg(started.pid, signal.SIGKILL)
-            return None, b""
+            sys.exit(f".ci/faults.py: {words[-1]}: doesn't end")
     return started.returncode, text
 
 
@@ -186,11 +191,11 @@ def shown(text: bytes) -> str:
     return repr(text) if len(text) <= 300 else f"{text[:100]!r} .. {text[-100:]!r} ({len(text)} bytes)"
 
 
-def is_right(trial: Trial, status: int | None, text: bytes) -> bool:
+def is_right(trial: Trial, status: int, text: bytes) -> bool:
     if (status, text) == (trial.status, trial.text):
         return True
-    ended = "doesn't end" if status is None else f"status {status}, {shown(text)}"
-    print(f"{trial.name}: {trial.line}\n    {ended}\n    not status {trial.status}, {shown(trial.text)}", file=sys.stderr)
+    ends = f"status {status}, {shown(text)}\n    not status {trial.status}, {shown(trial.text)}"
+    print(f"{trial.name}: {trial.line}\n    {ends}", file=sys.stderr)
     return False
 
 

@@ -97,7 +97,7 @@ def fill(database: sqlite3.Connection, table: str, report: Iterable[str]) -> Non
             scan_id = next_scan(database)
         elif kind == "column":
             _, kinds, names = zip(*map(cells_of, lines))
-            database.execute(create(quoted(table), zip(names, (TYPES[kind] for kind in kinds))))
+            database.execute(create(quoted(table), zip(names, map(TYPES.get, kinds))))
         elif kind == "row":
             database.executemany(insert(table, len(kinds)), rows_of(lines, kinds))
         elif kind in ("scan", "error"):

@@ -1,5 +1,6 @@
-/* Stands before pthread_create, and refuses the thread that the environment names: REFUSED_THREAD=N the N-th one that is asked
-   for, from 1, and REFUSED_THREAD=all each. A refusal leaves a byte in the file `refused` of the working directory. */
+/* Stands before pthread_create, and refuses the threads that the environment names: REFUSED_THREAD=N the N-th that is asked for,
+   from 1, and REFUSED_THREAD=N- that one and all later ones. A refusal leaves a byte in the file `refused` of the working
+   directory. */
 #define _GNU_SOURCE
 #include <dlfcn.h>
 #include <errno.h>
@@ -7,19 +8,21 @@
 #include <pthread.h>
 #include <stdatomic.h>
 #include <stdlib.h>
-#include <string.h>
 #include <unistd.h>
 
 typedef int create(pthread_t *, const pthread_attr_t *, void *(*)(void *), void *);
 
 static create *next_create;
-static const char *refused;
+static long first;
+static int later;
 static atomic_long asked;
 
 __attribute__((constructor)) static void begin(void) {
     next_create = (create *)dlsym(RTLD_NEXT, "pthread_create");
     const char *said = getenv("REFUSED_THREAD");
-    refused = said ? said : "";
+    char *end = "";
+    first = said ? strtol(said, &end, 10) : 0;
+    later = *end == '-';
 }
 
 static void note(void) {
@@ -29,7 +32,9 @@ static void note(void) {
 
 int pthread_create(pthread_t *thread, const pthread_attr_t *how, void *(*work)(void *), void *of) {
     long number = atomic_fetch_add(&asked, 1) + 1;
-    if (strcmp(refused, "all") && number != strtol(refused, NULL, 10)) return next_create(thread, how, work, of);
-    note();
-    return EAGAIN;
+    if (number == first || (later && number > first)) {
+        note();
+        return EAGAIN;
+    }
+    return next_create(thread, how, work, of);
 }
