@@ -145,8 +145,8 @@ def check_others(server: Server) -> None:
     text = "id,note\n" + "".join(f"{number},{note}\n" for number, note in rows)
     same(server.load("-", "piped", [], text.encode()), (0, ""))
     same(server.ask("SELECT * FROM piped ORDER BY id"), rows)
-    server.load_text("empty.csv", b"", "empty", [])
-    same(server.ask("SELECT count(*), min(column0) FROM empty"), [[0, None]])
+    server.load_text("empty.csv", b"", "leere_bücher", [])
+    same(server.ask("SELECT count(*), min(column0) FROM leere_bücher"), [[0, None]])
     server.load_text("wide.csv", b"%s\n" % b",".join(b"%d" % number for number in range(300)), "wide", ["header=false"])
     same(server.ask("SELECT * FROM wide"), [[*range(300)]])
 
