@@ -1,5 +1,6 @@
 mod cells;
 mod extents;
+mod feeding;
 mod files;
 mod fronts;
 mod lists;
