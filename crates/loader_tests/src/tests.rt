@@ -1,18 +1,22 @@
 //! The tests, a module for each subject.
 mod batch;
+mod claims;
 mod comments;
 mod conflicts;
 mod convert;
 mod crew;
 mod faults;
+mod faulty_rows;
 mod found;
 mod hostile;
 mod large;
 mod long_lines;
 mod made;
+mod made_written;
 mod ranges;
 mod refused;
 mod rejects;
+mod stages;
 mod taps;
 mod watched;
 mod windows;

@@ -278,25 +278,3 @@ fn a_text_of_one_character_is_quoted_where_needed(rt: HostRuntime) -> Result<(),
     }
     Ok(())
 }
-
-#[test]
-fn a_made_file_is_written_as_it_is(rt: HostRuntime) -> Result<(), Fail> {
-    let making: &[&str] = &["make", "7", "rows=20000"];
-    let made = reply_of(&rt, rt.alloc(), making, b"")?;
-    assert_eq!(rt; made.status(), 0);
-    for threads in ["threads=1", "threads=8"] {
-        let words: &[&str] = &[
-            "convert",
-            "f.csv",
-            "header=true",
-            "types=BIGINT,BOOLEAN,DATE,VARCHAR",
-            "range_size=65536",
-            threads,
-        ];
-        assert!(rt;
-            writes(&rt, rt.alloc(), words, made.text(), made.text())?,
-            "{threads}"
-        );
-    }
-    Ok(())
-}

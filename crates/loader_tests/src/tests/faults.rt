@@ -1,5 +1,5 @@
 //! Calls of the outside that fail.
-use crate::{IN_PIECES, Outside, Reply, reply_to, words_of};
+use crate::{IN_PIECES, Outside, Reply, WHOLE, reply_to, words_of};
 use csv_source::NoMemory;
 use std::alloc::Global;
 use std::sync::Wait;
@@ -42,6 +42,33 @@ fn faults_of_the_outside_have_their_replies(rt: HostRuntime) -> Result<(), Fail>
         assert_eq!(rt; reply.status(), status);
         assert_eq!(rt; reply.text(), text);
     }
+    Ok(())
+}
+
+const LOAD_NUMBERS: &[&str] = &["load", "f.csv", "types=BIGINT", "header=false"];
+
+// Call 1 opens the file, 2 and 3 give its two rows, of which the first is faulty.
+#[test]
+fn a_read_that_fails_behind_a_faulty_row_is_a_read_fault(rt: HostRuntime) -> Result<(), Fail> {
+    let words = words_of(rt.alloc(), LOAD_NUMBERS)?;
+    let outside = Outside {
+        source_piece: 2,
+        failing_source_call: Some(3),
+        ..WHOLE
+    };
+    let reply = reply_to(&rt, rt.alloc(), &words, b"x\n1\n", outside)?;
+    assert_eq!(rt; reply.status(), 2);
+    assert_eq!(rt; reply.text(), READ_FAULT);
+    Ok(())
+}
+
+#[test]
+fn a_sink_with_little_room_takes_the_front_of_the_text(rt: HostRuntime) -> Result<(), Fail> {
+    let words = words_of(rt.alloc(), &["load", "f.csv"])?;
+    let outside = Outside { room: 7, ..WHOLE };
+    let reply = reply_to(&rt, rt.alloc(), &words, b"", outside)?;
+    assert_eq!(rt; reply.status(), 5);
+    assert_eq!(rt; reply.text(), b"options".as_slice());
     Ok(())
 }
 

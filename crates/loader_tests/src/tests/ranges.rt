@@ -170,22 +170,35 @@ fn ranges_that_cut_have_their_reply_while_more_is_read(rt: HostRuntime) -> Resul
 }
 
 /// A line end and a delimiter in quotes.
-const OVER_LINES: [Case; 1] = [Case {
-    words: &["load", "f.csv", "header=false"],
-    input: b"a,\"x,\"\"y\"\"\nz\",b\n",
-    status: 0,
-    options: OPT,
-    rest: b"column|0|VARCHAR|column0\n\
+const OVER_LINES: &[u8] = b"a,\"x,\"\"y\"\"\nz\",b\n";
+
+const ONE_ROW: &[u8] = b"column|0|VARCHAR|column0\n\
 column|1|VARCHAR|column1\n\
 column|2|VARCHAR|column2\n\
 row|a|x,\"y\"\\nz|b\n\
 rows|1\n\
-errors|0|0\n",
-}];
+errors|0|0\n";
+
+const OVER_LINES_LOADED: [Case; 2] = [
+    Case {
+        words: &["load", "f.csv", "header=false"],
+        input: OVER_LINES,
+        status: 0,
+        options: OPT,
+        rest: ONE_ROW,
+    },
+    Case {
+        words: &["load", "f.csv", "header=false", "pipeline=true"],
+        input: OVER_LINES,
+        status: 0,
+        options: OPT,
+        rest: ONE_ROW,
+    },
+];
 
 #[test]
 fn no_ranges_change_the_reply(rt: HostRuntime) -> Result<(), Fail> {
-    assert_eq!(rt; wrong_cut(&rt, rt.alloc(), &OVER_LINES, 16)?, None);
+    assert_eq!(rt; wrong_cut(&rt, rt.alloc(), &OVER_LINES_LOADED, 16)?, None);
     Ok(())
 }
 
