@@ -132,18 +132,30 @@ fn check_search(rt: &impl Abort, dialect: &Dialect, text: &[u8], quoted: bool) {
     assert_eq!(rt; searched, place);
 }
 
+// Each class stands at each place of texts of 0 to 200 bytes, with other bytes behind it.
 #[test]
 fn each_class_is_found_at_each_place(rt: HostRuntime) {
     let dialect = commented(&rt, dialect(&rt, b';', b'\'', Some(b'\\')));
     for byte in [b'\n', b'\r', b';', b'\'', b'\\', b'#', b'a'] {
         for len in 0..201 {
             let mut text = [b'x'; 200];
-            if len > 0 {
-                text[len - 1] = byte;
+            for at in 0..len {
+                text[at] = byte;
+                check_search(&rt, &dialect, &text[..len], false);
+                check_search(&rt, &dialect, &text[..len], true);
+                text[at] = b'x';
             }
-            check_search(&rt, &dialect, &text[..len], false);
-            check_search(&rt, &dialect, &text[..len], true);
         }
+    }
+}
+
+#[test]
+fn no_class_is_found_in_texts_without_it(rt: HostRuntime) {
+    let dialect = commented(&rt, dialect(&rt, b';', b'\'', Some(b'\\')));
+    let text = [b'x'; 200];
+    for len in 0..201 {
+        check_search(&rt, &dialect, &text[..len], false);
+        check_search(&rt, &dialect, &text[..len], true);
     }
 }
 

@@ -129,6 +129,17 @@ fn rows_are_counted(rt: HostRuntime) -> Result<(), Fail> {
 }
 
 #[test]
+fn all_rows_agree_under_the_sixth_candidate(rt: HostRuntime) -> Result<(), Fail> {
+    let alloc = rt.alloc();
+    let list = candidates(alloc, &options_of(alloc, "load f.csv")?)?;
+    assert!(rt; list.len() > 5);
+    assert_eq!(rt; list.get(5), dialect(&rt, b'|', b'"', b'"'));
+    let sixth = counts(alloc, &list.get(5), FLIGHTS, true, 20_480)?;
+    assert_eq!(rt; sixth, [4, 4, 4, 0, 0, 4]);
+    Ok(())
+}
+
+#[test]
 fn a_sampled_row_has_a_start_and_an_end(rt: HostRuntime) -> Result<(), Fail> {
     let comma = dialect(&rt, b',', b'"', b'"');
     let rows = sample_rows(rt.alloc(), &comma, b"\na,b\r\nc,d", false, 20_480)?;

@@ -100,6 +100,24 @@ fn enter_alone(rt: &impl Abort, chain: &Chain, walker: &mut Walker, range: u32)
     assert_eq!(rt; walker.advance(chain), moved(range, mark.opened, mark.end));
 }
 
+// Two ranges are posted before the front comes to them, and the front moves past both.
+fn enter_posted_ahead(rt: &impl Abort, chain: &Chain, first: &mut Walker)
+    requires { IsReady chain.now first.old.link first.old.kept first.old.duty }
+    ensures { IsReady chain.now first.new.link first.new.kept first.new.duty }
+{
+    assert_eq!(rt; first.post(chain, 3), Post::First);
+    assert_eq!(rt; first.post(chain, 4), Post::First);
+    assert_eq!(rt;
+        first.advance(chain),
+        moved(3, State::RowStart, State::FieldStart)
+    );
+    assert_eq!(rt;
+        first.advance(chain),
+        moved(4, State::FieldStart, State::RowStart)
+    );
+    assert_eq!(rt; first.advance(chain), Advance::Unposted(5));
+}
+
 // The other ranges are done by two links in turn.
 fn enter_the_rest(rt: &impl Abort, chain: &Chain, first: &mut Walker, second: &mut Walker)
     requires first { IsReady chain.now first.old.link first.old.kept first.old.duty }
@@ -107,7 +125,7 @@ fn enter_the_rest(rt: &impl Abort, chain: &Chain, first: &mut Walker, second: &m
     ensures first { IsReady chain.now first.new.link first.new.kept first.new.duty }
     ensures second { IsReady chain.now second.new.link second.new.kept second.new.duty }
 {
-    for range in 2..RANGES {
+    for range in 5..RANGES {
         if range % 2 == 0 {
             enter_alone(rt, chain, second, range);
         } else {
@@ -124,6 +142,8 @@ fn two_links_in_a_worked_order(rt: HostRuntime) -> Result<(), Fail> {
     let mut second = first.split(&chain);
     enter_range_0(&rt, &chain, &mut first);
     rescan_range_1(&rt, &chain, &mut first, &mut second);
+    enter_alone(&rt, &chain, &mut second, 2);
+    enter_posted_ahead(&rt, &chain, &mut first);
     enter_the_rest(&rt, &chain, &mut first, &mut second);
     Ok(())
 }
