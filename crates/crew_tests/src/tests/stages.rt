@@ -24,9 +24,12 @@ struct Flags {
 }
 
 impl Flags {
-    /// Raises one flag, and goes on when the other is raised.
+    /// Raises one flag, and goes on when the other is raised, or where one gave up before.
     fn meet(&self, mine: &AtomicU64, other: &AtomicU64) {
         mine.store(1, Ordering::SeqCst);
+        if self.given_up.load(Ordering::SeqCst) > 0 {
+            return;
+        }
         for _ in 0..TURNS {
             if other.load(Ordering::SeqCst) == 1 {
                 return;
