@@ -1,4 +1,6 @@
-"""Rows that are hard to hand on, each in all types: as Python has them, and as CSV."""
+"""Rows that are hard to hand on, each in all types: as Python has them, and as CSV. And a loader that ends too early."""
+
+import pathlib
 
 TYPES = ["BIGINT", "BOOLEAN", "DATE", "TIME", "TIMESTAMP", "VARCHAR"]
 NAMES = ["number", "Is it?", "day", ":clock", 'a|b "c" \\d', "straße"]
@@ -57,3 +59,9 @@ def field(value: int | bool | str | None) -> str:
 def as_csv() -> bytes:
     lines = [",".join(map(quoted, NAMES)), *(",".join(map(field, row)) for row in ROWS)]
     return "".join(f"{line}\n" for line in lines).encode()
+
+
+def write_broken_loader(path: pathlib.Path) -> None:
+    """A program that ends with status 6 in the midst of a report."""
+    path.write_text("#!/bin/sh\necho 'options|'\necho 'column|0|BIGINT|a'\necho 'row|1'\nexit 6\n")
+    path.chmod(0o755)

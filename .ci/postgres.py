@@ -165,6 +165,10 @@ def check_mistakes(server: Server) -> None:
         got, said = server.load("file.csv", table, options)
         assert got == status and part in said, f"{table} {options}: status {got}, {said!r}, not {status}, {part!r}"
         same(server.ask(everything), before)
+    hard_rows.write_broken_loader(server.folder / "broken")
+    server.environment["CSVLOAD"] = str(server.folder / "broken")
+    same(server.load("file.csv", "new", []), (6, ""))
+    same(server.ask(everything), before)
 
 
 def main() -> None:

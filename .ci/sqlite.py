@@ -5,6 +5,7 @@ CSVLOAD names the program.
 """
 
 import contextlib
+import os
 import pathlib
 import sqlite3
 import subprocess
@@ -32,10 +33,11 @@ MISTAKES = [
 ]
 
 
-def load(file: pathlib.Path, database: pathlib.Path, options: list[str]) -> tuple[int, str]:
-    """The status, and what is said."""
+def load(file: pathlib.Path, database: pathlib.Path, options: list[str], **more: str) -> tuple[int, str]:
+    """The status, and what is said, with more in the environment."""
     command = [sys.executable, EXAMPLES / "sqlite.py", file, database, *options]
-    done = subprocess.run(command, stdin=subprocess.DEVNULL, capture_output=True, timeout=60, text=True)
+    how = {"stdin": subprocess.DEVNULL, "capture_output": True, "text": True, "env": {**os.environ, **more}}
+    done = subprocess.run(command, timeout=60, **how)
     assert done.stdout == "", done.stdout
     return done.returncode, done.stderr
 
@@ -97,6 +99,8 @@ def check_mistakes(folder: pathlib.Path) -> None:
     for name, option, wanted in (("absent.csv", "header=true", 2), ("there.csv", "header=yes", 1)):
         status, said = load(folder / name, database, [option])
         same((status, said[:9], said.count("\n")), (wanted, "csvload: ", 1))
+    hard_rows.write_broken_loader(folder / "broken")
+    same(load(folder / "new.csv", database, [], CSVLOAD=str(folder / "broken")), (6, ""))
     same((tables_of(database), ask(database, "SELECT * FROM there")), (before, [(2,)]))
     same(ask(database, "SELECT scan_id FROM reject_scans"), [(0,)])
 
