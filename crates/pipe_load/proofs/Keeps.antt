@@ -13,7 +13,7 @@ use Rattle.pipe_load.specs.declared.window.Window.{Window}
 use Rattle.pipe_load.specs.declared.window.Item.{Item}
 use Rattle.pipe_load.specs.declared.window.Item.TheVariants as item
 use Rattle.pipe_load.specs.PassViews.{caller_view, stage_view, joined_view, after_put, after_take, IsNext, IsOneOf, IsSettled}
-use Rattle.pipe_load.specs.Rule.{times, end_marks, held, Fits, Ruled, IsRuled}
+use Rattle.pipe_load.specs.Rule.{times, end_marks, held, Fits, Ruled, IsRuled, IsMoment}
 use Rattle.pipe_load.proofs.Lists.{at_more, at_one_more, drop_first, drop_more, marks_more, times-append, once_more, sum_set, all_up, just}
 
 -- what all passes know is so
@@ -246,3 +246,14 @@ settles id v may items views (put, taken, marks_left, marks, caller, r) at =
     let mine : Fits put marks caller id v = r.each id v at in
     let put_is : v.put ≡ put = (mine.puts may).1 in
     subst (λ (l : List Window). All (IsOneOf l) v.taken) (sym put_is) mine.taken
+
+-- what a pass learns of any moment
+pub moments : (id : ℕ) (v : PassView) → Learns IsRuled id v (IsMoment v)
+moments id v items views h at = record { views = views; id = id; knows = at; rule = h }
+
+-- the rule behind a put and a take
+pub put_keeps : (id : ℕ) (v : PassView) (x : Item) (items : List Item) (views : List PassView) → v.is_caller ≡ true → IsNext v x → IsRuled items views → get_elem? views id ≡ some v → IsRuled (items ++ x ∷ []) (set views id (after_put v x))
+put_keeps id v x items views may next h at = let w = puts (suc (length items)) id v x may next items views (omega arith) h at in subst (λ (u : PassView). IsRuled (items ++ x ∷ []) (set views id u)) w.2 w.1
+
+pub take_keeps : (id : ℕ) (v : PassView) (x : Item) (items : List Item) (views : List PassView) → IsRuled (x ∷ items) views → get_elem? views id ≡ some v → IsRuled items (set views id (after_take v x))
+take_keeps id v x items views h at = let w = takes id v x items views h at in subst (λ (u : PassView). IsRuled items (set views id u)) w.2 w.1

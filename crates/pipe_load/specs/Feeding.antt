@@ -1,11 +1,12 @@
 -- What the caller has of the queue while it reads.
-use Rattle.std.specs.Prelude.{◌≡◌, ℕ, ◌<◌, true, List, [], ◌++◌, length, slice_index_or}
+use Rattle.std.specs.Prelude.{◌≡◌, ℕ, ◌+◌, ◌<◌, ◌⊎◌, true, List, [], ◌++◌, length, slice_index_or}
 use Rattle.crossbeam_queue.specs.Passes.{Pass, view, IsPassOf}
 use Rattle.pipe_load.specs.declared.feeding.Feed.{Feed}
 use Rattle.pipe_load.specs.declared.window.Window.{Window}
 use Rattle.pipe_load.specs.declared.windows.Windows.{Windows}
 use Rattle.pipe_load.specs.declared.pass_view.PassView.{PassView}
 use Rattle.pipe_load.specs.declared.window.Item.{Item}
+use Rattle.pipe_load.specs.Rule.{WasFull}
 
 -- each window stands at the place of its number
 abbrev pub AreNumbered : List Window → Type 0
@@ -26,3 +27,15 @@ pub record IsFeed (windows : Windows) (feed : Feed) : Type 0 where
   pub pass : IsCallers windows feed.pass
   pub puts : (view feed.pass).puts ≡ length (view feed.pass).put
   pub numbered : AreNumbered (made_of feed)
+
+-- windows wait only where the queue was full at a moment
+abbrev pub WaitsForRoom : Feed → Type 0
+WaitsForRoom feed = 0 < length feed.waiting.items → WasFull (view feed.pass)
+
+-- all windows were put, and behind them so many end marks
+abbrev pub IsWhole : ℕ → Feed → Type 0
+IsWhole marks feed = (feed.waiting.items ≡ []) × ((view feed.pass).puts ≡ length (view feed.pass).put + marks)
+
+-- the same, or the queue was full at a moment
+abbrev pub IsFed : ℕ → Feed → Type 0
+IsFed marks feed = IsWhole marks feed ⊎ WasFull (view feed.pass)

@@ -1,8 +1,7 @@
 -- What a pass knows of the queue of windows, and what its steps make of it.
-use Rattle.std.specs.Prelude.{◌≡◌, ◌+◌, true, false, List, [], ◌∷◌, ◌++◌, length, All}
+use Rattle.std.specs.Prelude.{◌≡◌, ℕ, ◌+◌, true, false, List, [], ◌∷◌, ◌++◌, length, All}
 use mathlib.Core.Option.{some}
 use lib.ListN.{get_elem?}
-use Rattle.crossbeam_queue.specs.Fifo.{Held}
 use Rattle.pipe_load.specs.declared.pass_view.PassView.{PassView}
 use Rattle.pipe_load.specs.declared.window.Window.{Window}
 use Rattle.pipe_load.specs.declared.window.Item.{Item}
@@ -25,6 +24,10 @@ abbrev pub after_take : PassView → Item → PassView
 after_take v (item.Window w) = record v { taken = v.taken ++ w ∷ [] }
 after_take v item.EndMark = v
 
+-- the caller has put so many more end marks
+abbrev pub with_marks : PassView → ℕ → PassView
+with_marks v n = record v { puts = v.puts + n }
+
 -- what a stage took goes to the caller's list
 abbrev pub joined_view : PassView → PassView → PassView
 joined_view v stage = record v { taken = v.taken ++ stage.taken }
@@ -41,10 +44,3 @@ IsOneOf put w = get_elem? put w.number ≡ some w
 -- each window that was taken is the one that was put under its number
 abbrev pub IsSettled : PassView → Type 0
 IsSettled v = All (IsOneOf v.put) v.taken
-
--- at a moment the queue was full, or empty
-abbrev pub WasFull : Type 0
-WasFull = Held {T = Item} 64 (λ _. Unit {0})
-
-abbrev pub WasEmpty : Type 0
-WasEmpty = Held {T = Item} 0 (λ _. Unit {0})

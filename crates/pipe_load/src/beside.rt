@@ -4,7 +4,7 @@ ghost use Rattle.std.specs.Io.KnownBytes.{Consumes};
 ghost use Rattle.csv_source.specs.Causes.{Rose};
 ghost use Rattle.window_load.specs.DataRead.{Comes};
 ghost use Rattle.window_load.specs.declared.stop.LoadStop.TheVariants as stops;
-ghost use Rattle.pipe_load.specs.Feeding.{IsCallers, IsFeed, made_of};
+ghost use Rattle.pipe_load.specs.Feeding.{IsCallers, IsFeed, IsFed, made_of};
 ghost use Rattle.pipe_load.specs.Layout.{IsLayout};
 ghost use Rattle.pipe_load.specs.Reading.{HasCutAll, IsStarted};
 ghost use Rattle.pipe_load.specs.Scanning.{IsStage, HasScanned};
@@ -22,7 +22,8 @@ use std::thread;
 use std::thread::Threads;
 use window_load::LoadStop;
 
-/// Reads the data and puts their windows, while the stages scan those that are there.
+/// Reads the data and puts their windows, while the stages scan those that are there. The reading is on the caller's own
+/// thread: where none can be made for the stages they come last, and find what was put and the end.
 fn read_beside_stages<R: Threads + Wait + Sync, S: Source + Send, G: Gate>(
     rt: &R,
     alloc: Global,
@@ -46,6 +47,8 @@ fn read_beside_stages<R: Threads + Wait + Sync, S: Source + Send, G: Gate>(
     ensures stages { All (IsStage windows.now) stages.new }
     ensures all { All (λ stage. stage.short ≡ false → HasScanned scanner.now.context.now scanner.now.layout stage) stages.new }
     ensures pass { IsCallers windows.now feed.new.pass }
+    // Whatever the answer, all windows were put and all end marks, or the queue was full at a moment.
+    ensures fed { IsFed (length stages.old) feed.new }
     // Whatever the answer, bytes came from the source, and the rest is left.
     ensures moved { Comes (S.left source.old) (S.left source.new) }
     ensures ok { OnOk result ((text : List ℕ) × (read : List ℕ)
@@ -58,15 +61,15 @@ fn read_beside_stages<R: Threads + Wait + Sync, S: Source + Send, G: Gate>(
         → (read : List ℕ) × Consumes (S.left source.old) (S.left source.new) read × (length read ≡ reader.old.room) }
 {
     let count = stages.len();
-    let (read, ()) = thread::join_mut(
+    let ((), read) = thread::join_mut(
         rt,
-        &mut || { feed.put_data(rt, alloc, windows, reader, source, count) },
         &mut ||
             requires { (0 < length stages.now) × All (IsStage windows.now) stages.now × All (HasScanned scanner.now.context.now scanner.now.layout) stages.now }
             ensures { ((k : ℕ) (d : _) → k < length stages.entry.now → IsStage windows.entry.now (slice_index_or stages.exit.now k d))
                 × ((k : ℕ) (d : _) → k < length stages.entry.now → (slice_index_or stages.exit.now k d).short ≡ false
                 → HasScanned scanner.entry.now.context.now scanner.entry.now.layout (slice_index_or stages.exit.now k d)) }
         { work_all(rt, windows, scanner, stages) },
+        &mut || { feed.put_data(rt, alloc, windows, reader, source, count) },
     );
     read
 }
@@ -95,6 +98,8 @@ pub fn read_beside<R: Threads + Wait + Sync, S: Source + Send, G: Gate>(
     ensures stages { All (IsStage windows.now) stages.new.items }
     ensures all { All (λ stage. stage.short ≡ false → HasScanned scanner.now.context.now scanner.now.layout stage) stages.new.items }
     ensures pass { IsCallers windows.now feed.new.pass }
+    // Whatever the answer, all windows were put and all end marks, or the queue was full at a moment.
+    ensures fed { IsFed (length stages.old.items) feed.new }
     // Whatever the answer, bytes came from the source, and the rest is left.
     ensures moved { Comes (S.left source.old) (S.left source.new) }
     ensures ok { OnOk result ((text : List ℕ) × (read : List ℕ)

@@ -1,13 +1,15 @@
 //! The caller's side of the queue while it reads.
-ghost use Rattle.std.specs.Prelude.{◌≡◌, ◌+◌, ◌<◌, ◌≤◌, ◌^◌, ◌++◌, ◌∷◌, ℕ, List, [], length, OnOk, OnErr, Err};
+ghost use Rattle.std.specs.Prelude.{◌≡◌, ◌+◌, ◌<◌, ◌≤◌, ◌^◌, ◌++◌, ◌∷◌, ℕ, List, [], length, IsTrue, IsFalse, OnOk, OnErr, Err};
 ghost use Rattle.std.specs.Io.KnownBytes.{Consumes};
 ghost use Rattle.crossbeam_queue.specs.Passes.{view};
 ghost use Rattle.csv_source.specs.Causes.{Rose};
 ghost use Rattle.window_load.specs.DataRead.{Comes};
 ghost use Rattle.window_load.specs.declared.stop.LoadStop.TheVariants as stops;
-ghost use Rattle.pipe_load.specs.Feeding.{IsCallers, IsFeed, made_of};
+ghost use Rattle.pipe_load.specs.Feeding.{IsCallers, IsFeed, IsFed, WaitsForRoom, made_of};
 ghost use Rattle.pipe_load.specs.Layout.{IsLayout};
+ghost use Rattle.pipe_load.specs.PassViews.{with_marks};
 ghost use Rattle.pipe_load.specs.Reading.{HasCutAll, IsStarted};
+ghost use Rattle.pipe_load.specs.Rule.{WasFull};
 
 use crate::reader::Reader;
 use crate::window::{Item, Window};
@@ -16,11 +18,7 @@ use csv_source::{NoMemory, Source};
 use std::alloc::Global;
 use std::collections::VecDeque;
 use std::sync::Wait;
-use std::thread;
 use window_load::LoadStop;
-
-/// How many tries in a row may find no room before the caller gives up.
-const PATIENCE: u64 = 10_000_000;
 
 /// What the caller has of the queue: its pass, and the windows for which there was no room.
 #[derive(Drop)]
@@ -30,19 +28,22 @@ pub struct Feed {
 }
 
 impl Feed {
-    /// Puts the windows that wait, the oldest first, while there is room.
-    fn put_waiting<R: Wait>(&mut self, rt: &R, windows: &Windows)
+    /// Puts the windows that wait, the oldest first, while there is room. Whether none waits any more.
+    fn put_waiting<R: Wait>(&mut self, rt: &R, windows: &Windows) -> bool
         requires feed { IsFeed windows.now self.old }
         requires few { length (made_of self.old) < 2 ^ 39 }
         ensures feed { IsFeed windows.now self.new }
         ensures same { made_of self.new ≡ made_of self.old }
+        ensures all { IsTrue result → self.new.waiting.items ≡ [] }
+        ensures cause { IsFalse result → WasFull (view self.new.pass) }
     {
         while let Some(window) = self.waiting.pop_front() {
             if let Err(Item::Window(back)) = windows.put(rt, &mut self.pass, Item::Window(window)) {
                 self.waiting.push_front_reserved(back);
-                return;
+                return false;
             }
         }
+        true
     }
 
     /// Puts the next window, behind those that wait. Without room for it in the queue it waits.
@@ -53,6 +54,7 @@ impl Feed {
         ensures feed { IsFeed windows.now self.new }
         ensures ok { OnOk result (made_of self.new ≡ made_of self.old ++ window ∷ []) }
         ensures err { OnErr result (made_of self.new ≡ made_of self.old) }
+        ensures cause { OnOk result (WaitsForRoom self.new) }
     {
         self.waiting.push_back(window)?;
         self.put_waiting(rt, windows);
@@ -97,61 +99,85 @@ impl Feed {
         Err(LoadStop::NoMemory)
     }
 
-    /// Puts the windows that wait, as room comes. Gives up after too many tries in a row that found none.
-    fn put_rest<R: Wait>(&mut self, rt: &R, windows: &Windows)
+    /// Puts the windows that wait, as room comes. Whether none waits any more: it gives up where there is no room, and no
+    /// stage is at work that could make some. That the waiting ends isn't proved.
+    fn put_rest<R: Wait>(&mut self, rt: &R, windows: &Windows) -> bool
         requires feed { IsFeed windows.now self.old }
         requires few { length (made_of self.old) < 2 ^ 39 }
         ensures feed { IsFeed windows.now self.new }
         ensures same { made_of self.new ≡ made_of self.old }
+        ensures all { IsTrue result → self.new.waiting.items ≡ [] }
+        ensures cause { IsFalse result → WasFull (view self.new.pass) }
     {
-        let mut tries = 0;
-        for _ in 0..u64::MAX {
-            let waited = self.waiting.len();
-            self.put_waiting(rt, windows);
-            if self.waiting.is_empty() || tries == PATIENCE {
-                return;
+        for _ in rt.forever() {
+            let heard = windows.signals.heard_by_caller();
+            if self.put_waiting(rt, windows) {
+                return true;
             }
-            tries = if self.waiting.len() < waited {
-                0
-            } else {
-                tries + 1
-            };
-            thread::yield_now();
+            if !windows.signals.wait_for_room(rt, heard) {
+                return false;
+            }
         }
+        unreachable!()
     }
 
-    /// Puts an end mark, as room comes. Whether it was put, and not too many tries in a row found none.
+    /// Puts an end mark, as room comes. Whether it was put: it gives up as `put_rest` does.
     fn put_mark<R: Wait>(&mut self, rt: &R, windows: &Windows) -> bool
         requires pass { IsCallers windows.now self.old.pass }
         requires few { (view self.old.pass).puts < 2 ^ 40 }
         ensures pass { IsCallers windows.now self.new.pass }
-        ensures few { (view self.new.pass).puts ≤ (view self.old.pass).puts + 1 }
-        ensures same { made_of self.new ≡ made_of self.old }
+        ensures waiting { self.new.waiting ≡ self.old.waiting }
+        ensures put { IsTrue result → view self.new.pass ≡ with_marks (view self.old.pass) 1 }
+        ensures none { IsFalse result → view self.new.pass ≡ view self.old.pass }
+        ensures cause { IsFalse result → WasFull (view self.new.pass) }
     {
-        for _ in 0..PATIENCE {
+        for _ in rt.forever() {
+            let heard = windows.signals.heard_by_caller();
             if windows.put(rt, &mut self.pass, Item::EndMark).is_ok() {
                 return true;
             }
-            thread::yield_now();
+            if !windows.signals.wait_for_room(rt, heard) {
+                return false;
+            }
         }
-        false
+        unreachable!()
     }
 
-    /// Puts end marks for so many stages.
-    fn put_marks<R: Wait>(&mut self, rt: &R, windows: &Windows, stages: usize)
+    /// Puts end marks for so many stages, as room comes. How many were put.
+    fn put_marks<R: Wait>(&mut self, rt: &R, windows: &Windows, stages: usize) -> usize
         requires pass { IsCallers windows.now self.old.pass }
         requires few { (view self.old.pass).puts + stages < 2 ^ 40 }
         ensures pass { IsCallers windows.now self.new.pass }
-        ensures same { made_of self.new ≡ made_of self.old }
+        ensures waiting { self.new.waiting ≡ self.old.waiting }
+        ensures put { view self.new.pass ≡ with_marks (view self.old.pass) result }
+        ensures most { result ≤ stages }
+        ensures cause { result < stages → WasFull (view self.new.pass) }
     {
-        for _ in 0..stages {
+        for marks in 0..stages {
             if !self.put_mark(rt, windows) {
-                return;
+                return marks;
             }
         }
+        stages
     }
 
-    /// Reads the data to their end and puts their windows, and behind them end marks for so many stages.
+    /// Puts the windows that wait, and behind them end marks for so many stages, as room comes.
+    fn put_to_end<R: Wait>(&mut self, rt: &R, windows: &Windows, stages: usize)
+        requires feed { IsFeed windows.now self.old }
+        requires few { length (made_of self.old) < 2 ^ 39 }
+        requires stages { stages ≤ 64 }
+        ensures pass { IsCallers windows.now self.new.pass }
+        ensures same { made_of self.new ≡ made_of self.old }
+        ensures fed { IsFed stages self.new }
+    {
+        if !self.put_rest(rt, windows) {
+            return;
+        }
+        self.put_marks(rt, windows, stages);
+    }
+
+    /// Reads the data to their end and puts their windows, and behind them end marks for so many stages. Where it gives up
+    /// before, what was put is taken by stages that are told of the end, and what wasn't is left to the caller.
     pub fn put_data<R: Wait, S: Source>(
         &mut self,
         rt: &R,
@@ -169,6 +195,8 @@ impl Feed {
         requires stages { stages ≤ 64 }
         requires small { length reader.old.head.now + reader.old.room < 2 ^ 34 }
         ensures pass { IsCallers windows.now self.new.pass }
+        // Whatever the answer, all windows were put and all end marks, or the queue was full at a moment.
+        ensures fed { IsFed stages self.new }
         // Whatever the answer, bytes came from the source, and the rest is left.
         ensures moved { Comes (S.left source.old) (S.left source.new) }
         ensures ok { OnOk result ((text : List ℕ) × (read : List ℕ)
@@ -181,8 +209,8 @@ impl Feed {
             → (read : List ℕ) × Consumes (S.left source.old) (S.left source.new) read × (length read ≡ reader.old.room) }
     {
         let read = self.put_all(rt, alloc, windows, reader, source);
-        self.put_rest(rt, windows);
-        self.put_marks(rt, windows, stages);
+        self.put_to_end(rt, windows, stages);
+        windows.signals.tell_end();
         read
     }
 }

@@ -17,6 +17,7 @@ pub mod pass_view;
 mod reader;
 mod rule;
 mod scanner;
+mod signals;
 mod slots;
 mod stage;
 mod stages;

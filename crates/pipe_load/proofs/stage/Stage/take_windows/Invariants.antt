@@ -1,4 +1,3 @@
-use Rattle.std.proofs.Common.{◌<◌}
 use Rattle.pipe_load.specs.Scanning.{IsStage, HasScanned}
 use Rattle.pipe_load.proofs.stage.Stage.take_windows.Given as goal
 
@@ -6,5 +5,4 @@ abbrev pub invariant-loop : goal.invariant-loop
 invariant-loop g l = record {
   stage : IsStage l.windows l.self;
   all : HasScanned l.scanner.context.now l.scanner.layout l.self;
-  few : l.empty < 100000000;
 }
