@@ -6,6 +6,8 @@ ghost use Rattle.column_store.specs.RowsOfColumns.{HasNoTexts};
 ghost use Rattle.column_store.specs.Stacked.{rows_in};
 ghost use Rattle.column_store.specs.TableView.{cell_of};
 
+mod taking_in;
+
 use crate::chunk::Chunk;
 use crate::stacking::{append_each, append_ends, chunk_of, rows_before};
 use csv_source::NoMemory;

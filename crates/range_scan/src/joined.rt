@@ -82,7 +82,7 @@ impl Joined {
         let lines = self.line_ends;
         self.end = end;
         append_book(&mut self.book, book, lines)?;
-        self.table.join(table)?;
+        self.table.take_in(table)?;
         self.line_ends = sum_of(lines, line_ends)?;
         self.rescans = sum_of(self.rescans, rescans)?;
         self.rescanned = sum_of(self.rescanned, rescanned)?;

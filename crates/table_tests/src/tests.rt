@@ -1,4 +1,5 @@
 mod cells;
+mod chunks;
 mod extents;
 mod feeding;
 mod files;

@@ -132,7 +132,9 @@ fn rows_that_are_appended_count(rt: HostRuntime) -> Result<(), NoMemory> {
     table.join(table_of(alloc, &[None, Some(-1)])?)?;
     tells(&rt, alloc, &table, b"tap|span|0|-1|6\n")?;
     table.append(&table_of(alloc, &[Some(7)])?)?;
-    tells(&rt, alloc, &table, b"tap|span|0|-1|7\n")
+    tells(&rt, alloc, &table, b"tap|span|0|-1|7\n")?;
+    table.take_in(table_of(alloc, &[Some(-2), Some(8)])?)?;
+    tells(&rt, alloc, &table, b"tap|span|0|-2|8\n")
 }
 
 /// The extent of the first numbers of a table.
