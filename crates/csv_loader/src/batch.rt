@@ -9,7 +9,7 @@ ghost use Rattle.report_text.specs.declared.outcome.Outcome.TheVariants as outco
 ghost use Rattle.window_load.specs.declared.stop.LoadStop.TheVariants as stops;
 ghost use Rattle.csv_source.specs.declared.reading.ReadStop.TheVariants as read_stops;
 ghost use Rattle.csv_loader.specs.Headline.{IsAnswer};
-ghost use Rattle.csv_loader.specs.Reply.{outcome_status};
+ghost use Rattle.csv_loader.specs.Ending.{ending_code, ending_of};
 
 use crate::files::{InputLoad, load_input, load_later};
 use crate::loading::{Load, LoadedData};
@@ -134,7 +134,7 @@ fn load_files<R: Threads + Wait + Sync, S: Source + Send, G: Gate>(
 ) -> Result<Outcome, LoadStop>
     requires within { IsAccepted options.now }
     ensures printable { IfOk result IsPrintable }
-    ensures answer { IfOk result (λ outcome. IsAnswer (outcome_status outcome)) }
+    ensures answer { IfOk result (λ outcome. IsAnswer (ending_code (ending_of outcome))) }
     ensures ok { IfOk result (IsOutcomeOfFiles options.now word.now (S.held source.old) (S.left source.new)) }
     ensures too_large { result ≡ Err stops.TooLarge
         → IsOutcomeOfFiles options.now word.now (S.held source.old) (S.left source.new) (outcomes.TooLarge options.now.max_input) }
@@ -168,7 +168,7 @@ pub fn outcome_of_files<R: Threads + Wait + Sync, S: Source + Send, G: Gate>(
 ) -> Result<Outcome, ReadStop>
     requires within { IsAccepted options.now }
     ensures printable { IfOk result IsPrintable }
-    ensures answer { IfOk result (λ outcome. IsAnswer (outcome_status outcome)) }
+    ensures answer { IfOk result (λ outcome. IsAnswer (ending_code (ending_of outcome))) }
     ensures ok { IfOk result (IsOutcomeOfFiles options.now word.now (S.held source.old) (S.left source.new)) }
     ensures held { S.held source.new ≡ S.held source.old }
     ensures count { S.faults source.old ≤ S.faults source.new }

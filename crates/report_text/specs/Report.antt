@@ -60,3 +60,14 @@ report_of (outcome.Loaded l) = loaded_lines l (flat_map row_line l.table.rows) [
 report_of (outcome.Summary l tap_lines) = loaded_lines l [] tap_lines
 report_of (outcome.Batch s batch store stats) = batch_lines s batch store stats
 report_of (outcome.FirstError s reject) = found_lines s ++ error_line reject
+
+-- how many faults of rows were passed over, as the line of their numbers counts them: none where the report has no such line
+abbrev pub faults_in : Outcome → ℕ
+faults_in (outcome.Refused fault word) = 0
+faults_in outcome.ReadFault = 0
+faults_in (outcome.TooLarge limit) = 0
+faults_in (outcome.Sniffed s) = 0
+faults_in (outcome.Loaded l) = l.book.all
+faults_in (outcome.Summary l tap_lines) = l.book.all
+faults_in (outcome.Batch s batch store stats) = all_in batch.files
+faults_in (outcome.FirstError s reject) = 0

@@ -64,7 +64,7 @@ fn stored_in(store: bool, batch: &Batch) -> Result<u64, NoMemory>
 }
 
 /// How many rejects came.
-fn all_in(batch: &Batch) -> Result<u64, NoMemory>
+pub(crate) fn all_in(batch: &Batch) -> Result<u64, NoMemory>
     ensures { IfOk result (λ count. count ≡ all_in batch.now.files) }
 {
     let mut count = 0;

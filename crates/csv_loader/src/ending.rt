@@ -1,0 +1,70 @@
+// How a run ended, with what was found out.
+ghost use Rattle.std.specs.Prelude.{◌≡◌, IfOk};
+ghost use Rattle.csv_loader.specs.Ending.{ending_code, ending_of, ending_status};
+
+use crate::status::Status;
+use csv_sniffer::Sniffed;
+use csv_source::NoMemory;
+use load_options::WordFault;
+use reject_book::Reject;
+use report_text::Outcome;
+
+/// How a run ended.
+#[derive(Drop)]
+pub enum Ending {
+    /// The whole report, written table or made text was written. So many faults of rows were passed over, stored or not: 0
+    /// for `sniff` and `make`.
+    Answered(u64),
+    /// The words were refused.
+    Refused(WordFault),
+    /// The file that was opened last could not be opened or read.
+    ReadFault,
+    /// The load ended with its first error: what was found in the file, of `batch` in the first one, and the reject, whose
+    /// `file_id` is the file's number.
+    FirstError(Sniffed, Reject),
+    /// The text could not be written whole.
+    WriteFault,
+    /// No memory could be had.
+    NoMemory,
+    /// The file that was opened last is over this limit, in bytes.
+    TooLarge(u64),
+}
+
+impl Ending {
+    /// The ending that goes with an outcome, once its report is written.
+    pub fn of(outcome: Outcome) -> Result<Ending, NoMemory>
+        ensures ok { IfOk result (λ ending. ending ≡ ending_of outcome) }
+    {
+        let faults = outcome.faults()?;
+        Ok(match outcome {
+            Outcome::Refused(fault, _) => Ending::Refused(fault),
+            Outcome::ReadFault => Ending::ReadFault,
+            Outcome::TooLarge(limit) => Ending::TooLarge(limit),
+            Outcome::FirstError(sniffed, reject) => Ending::FirstError(sniffed, reject),
+            Outcome::Sniffed(_) | Outcome::Loaded(_) | Outcome::Summary(..) | Outcome::Batch(..) =>
+                Ending::Answered(faults),
+        })
+    }
+
+    /// The same with nothing of what was found out.
+    pub fn status(&self) -> Status
+        ensures { result ≡ ending_status self.now }
+    {
+        match self {
+            Ending::Answered(_) => Status::Answered,
+            Ending::Refused(_) => Status::Refused,
+            Ending::ReadFault => Status::ReadFault,
+            Ending::FirstError(..) => Status::FirstError,
+            Ending::WriteFault => Status::WriteFault,
+            Ending::NoMemory => Status::NoMemory,
+            Ending::TooLarge(_) => Status::TooLarge,
+        }
+    }
+
+    /// The exit status of the program.
+    pub fn code(&self) -> u8
+        ensures { result ≡ ending_code self.now }
+    {
+        self.status().code()
+    }
+}
