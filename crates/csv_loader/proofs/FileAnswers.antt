@@ -9,7 +9,7 @@ use Rattle.csv_loader.specs.declared.reply.Answer.{Answer}
 use Rattle.csv_loader.specs.declared.reply.Answer.TheVariants as answers
 use Rattle.csv_loader.specs.Batch.{IsReadWhole, IsReadOver}
 use Rattle.csv_loader.specs.Headline.{IsOutcomeOf}
-use Rattle.csv_loader.specs.Reply.{Reply, report, answer_reply, command_reply}
+use Rattle.csv_loader.specs.Reply.{Reply, outcome_reply, answer_reply, command_reply}
 
 module _ (request : Request) (file : List ℕ) (taps : List Seen) (held : Option (List (List ℕ × List ℕ))) (left : Option (List ℕ)) where
   abbrev o : Options
@@ -22,7 +22,7 @@ module _ (request : Request) (file : List ℕ) (taps : List Seen) (held : Option
   answer_told answer read = (
     read.0,
     read.1,
-    read.3 ∙ ap (λ t. cond t (report 7 (outcomes.TooLarge o.max_input)) (told read.0)) (sym (le-ltb o.max_input (length read.0) read.2)),
+    read.3 ∙ ap (λ t. cond t (outcome_reply (outcomes.TooLarge o.max_input)) (told read.0)) (sym (le-ltb o.max_input (length read.0) read.2)),
   )
 
   pub over_told : IsReadOver o.max_input held file left → IsOutcomeOf request file taps held left (answer_reply (answers.Report (outcomes.TooLarge o.max_input)))
@@ -30,5 +30,5 @@ module _ (request : Request) (file : List ℕ) (taps : List Seen) (held : Option
       let over : o.max_input < length read.0 = omega (arith, read.2) in (
         read.0,
         read.1,
-        ap (λ t. cond t (report 7 (outcomes.TooLarge o.max_input)) (told read.0)) (sym (lt-ltb o.max_input (length read.0) over)),
+        ap (λ t. cond t (outcome_reply (outcomes.TooLarge o.max_input)) (told read.0)) (sym (lt-ltb o.max_input (length read.0) over)),
       )

@@ -32,18 +32,20 @@ pub enum Ending {
 
 impl Ending {
     /// The ending that goes with an outcome, once its report is written.
-    pub fn of(outcome: Outcome) -> Result<Ending, NoMemory>
+    pub(crate) fn of(outcome: Outcome) -> Result<Ending, NoMemory>
         ensures ok { IfOk result (λ ending. ending ≡ ending_of outcome) }
     {
         let faults = outcome.faults()?;
-        Ok(match outcome {
-            Outcome::Refused(fault, _) => Ending::Refused(fault),
-            Outcome::ReadFault => Ending::ReadFault,
-            Outcome::TooLarge(limit) => Ending::TooLarge(limit),
-            Outcome::FirstError(sniffed, reject) => Ending::FirstError(sniffed, reject),
-            Outcome::Sniffed(_) | Outcome::Loaded(_) | Outcome::Summary(..) | Outcome::Batch(..) =>
-                Ending::Answered(faults),
-        })
+        match outcome {
+            Outcome::Refused(fault, _word) => Ok(Ending::Refused(fault)),
+            Outcome::ReadFault => Ok(Ending::ReadFault),
+            Outcome::TooLarge(limit) => Ok(Ending::TooLarge(limit)),
+            Outcome::FirstError(sniffed, reject) => Ok(Ending::FirstError(sniffed, reject)),
+            Outcome::Sniffed(_sniffed) => Ok(Ending::Answered(faults)),
+            Outcome::Loaded(_loaded) => Ok(Ending::Answered(faults)),
+            Outcome::Summary(_loaded, _lines) => Ok(Ending::Answered(faults)),
+            Outcome::Batch(_sniffed, _batch, _store, _stats) => Ok(Ending::Answered(faults)),
+        }
     }
 
     /// The same with nothing of what was found out.
