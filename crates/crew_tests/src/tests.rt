@@ -1,5 +1,6 @@
 mod contexts;
 mod crew;
 mod pipe;
+mod queue;
 mod stages;
 mod windows;
