@@ -82,20 +82,20 @@ impl Counting {
 
 /// What came of a counted run.
 #[derive(Drop)]
-struct Counted {
+struct CountedRun {
     status: u8,
     sink: MemorySink,
     gate: Counting,
 }
 
 /// What the words come to in such ranges, with `input` as the file `f.csv`.
-fn counted<R: Threads + Wait + Sync>(
+fn counted_run<R: Threads + Wait + Sync>(
     rt: &R,
     alloc: Global,
     words: &[&str],
     input: &[u8],
     cut: Cut,
-) -> Result<Counted, NoMemory> {
+) -> Result<CountedRun, NoMemory> {
     let Cut {
         range_size,
         threads,
@@ -108,7 +108,7 @@ fn counted<R: Threads + Wait + Sync>(
     let mut sink = MemorySink::with_room(alloc, 1000)?;
     let gate = Counting::new();
     let status = status_of(rt, alloc, &words, &mut source, &mut sink, &gate)?;
-    Ok(Counted { status, sink, gate })
+    Ok(CountedRun { status, sink, gate })
 }
 
 const LOAD_PLAIN: &[&str] = &[
@@ -139,7 +139,7 @@ fn each_range_is_claimed_once_and_scanned_again_where_it_differs(
             range_size,
             threads,
         };
-        let run = counted(&rt, rt.alloc(), LOAD_PLAIN, b"x,5\"y\n1,2\n", cut)?;
+        let run = counted_run(&rt, rt.alloc(), LOAD_PLAIN, b"x,5\"y\n1,2\n", cut)?;
         assert_eq!(rt; run.status, 0);
         assert!(rt; run.sink.taken().starts_with(OPT));
         assert!(rt; run.sink.taken().ends_with(TWO_ROWS));
@@ -197,7 +197,7 @@ fn a_range_whose_row_goes_on_behind_what_is_held_is_scanned_once_more(
             range_size,
             threads,
         };
-        let run = counted(&rt, rt.alloc(), SUM_LONG_ROWS, &input, cut)?;
+        let run = counted_run(&rt, rt.alloc(), SUM_LONG_ROWS, &input, cut)?;
         assert_eq!(rt; run.status, 0);
         assert!(rt; run.sink.taken().starts_with(OPT));
         assert!(rt; run.sink.taken().ends_with(LONG_ROWS));
