@@ -176,7 +176,7 @@ const SUM_LONG_ROWS: &[&str] = &[
     "stats=true",
 ];
 
-const LONG_ROWS: &[u8] = b"column|0|VARCHAR|column0\n\
+const LONG_ROWS_SUMMED: &[u8] = b"column|0|VARCHAR|column0\n\
 rows|89\n\
 errors|0|0\n\
 tap|count|89|89\n\
@@ -200,7 +200,7 @@ fn a_range_whose_row_goes_on_behind_what_is_held_is_scanned_once_more(
         let run = counted_run(&rt, rt.alloc(), SUM_LONG_ROWS, &input, cut)?;
         assert_eq!(rt; run.status, 0);
         assert!(rt; run.sink.taken().starts_with(OPT));
-        assert!(rt; run.sink.taken().ends_with(LONG_ROWS));
+        assert!(rt; run.sink.taken().ends_with(LONG_ROWS_SUMMED));
         assert_eq!(rt; told_of(&run.gate.all), (99, scans), "{threads}");
     }
     Ok(())
