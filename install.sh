@@ -14,7 +14,7 @@ case ${1-} in
         exit 1
         ;;
     *)
-        sed -n '2,7s/^# \{0,1\}//p' install.sh >&2
+        sed -n '2,8s/^# \{0,1\}//p' install.sh >&2
         exit 1
         ;;
 esac

@@ -1,24 +1,43 @@
 # Completions of csvload for bash: put this file into a folder that bash-completion reads, or source it.
 
+# Names of files, each with what stands before it: of a folder with its slash, of another with a space behind it.
+_csvload_files() {
+    local before=$1 name
+    mapfile -t COMPREPLY < <(compgen -f -- "$2")
+    if [ -z "$before" ]; then
+        compopt -o filenames
+        return
+    fi
+    # Several names are one word, which readline takes for no file.
+    compopt -o nospace
+    for name in "${!COMPREPLY[@]}"; do
+        [ -d "${COMPREPLY[name]}" ] && COMPREPLY[name]+=/
+        printf -v "COMPREPLY[name]" '%s%q' "$before" "${COMPREPLY[name]}"
+    done
+}
+
 _csvload() {
     local word=${COMP_WORDS[COMP_CWORD]}
     COMPREPLY=()
     if [ "$COMP_CWORD" -eq 1 ]; then
-        COMPREPLY=($(compgen -W 'load summary convert batch sniff make --help --version' -- "$word"))
+        mapfile -t COMPREPLY < <(compgen -W 'load summary convert batch sniff make help version --help --version' -- "$word")
         return
     fi
     case ${COMP_WORDS[1]} in
         make)
-            [ "$COMP_CWORD" -eq 3 ] && COMPREPLY=($(compgen -W 'rows=' -- "$word"))
+            compopt -o nospace
+            [ "$COMP_CWORD" -eq 3 ] && mapfile -t COMPREPLY < <(compgen -W 'rows=' -- "$word")
             ;;
         load | summary | convert | batch | sniff)
             if [ "$COMP_CWORD" -eq 2 ]; then
-                # Of several names the last one is completed.
-                local first=
+                # Of several names the last one is completed; what is quoted is taken as it is meant.
+                local first= last
                 [[ ${COMP_WORDS[1]} = batch && $word == *,* ]] && first=${word%,*},
-                COMPREPLY=($(compgen -P "$first" -f -- "${word#"$first"}"))
+                last=${word#"$first"} last=${last#[\"\']}
+                _csvload_files "$first" "${last//\\/}"
                 return
             fi
+            compopt -o nospace
             # '=' breaks words in most settings of readline, so a value may stand as a word of its own.
             local name=$word value=$word
             case $word in
@@ -28,18 +47,18 @@ _csvload() {
             esac
             case $name in
                 header | all_varchar | allow_quoted_nulls | null_padding | ignore_errors | store_rejects | pipeline | stats)
-                    COMPREPLY=($(compgen -W 'true false' -- "$value"))
+                    mapfile -t COMPREPLY < <(compgen -W 'true false' -- "$value")
                     ;;
                 types)
                     # Of several types the last one is completed.
                     local before=
                     [[ $value == *,* ]] && before=${value%,*},
-                    COMPREPLY=($(compgen -P "$before" -W 'BOOLEAN BIGINT DATE TIME TIMESTAMP VARCHAR' -- "${value##*,}"))
+                    mapfile -t COMPREPLY < <(compgen -P "$before" -W 'BOOLEAN BIGINT DATE TIME TIMESTAMP VARCHAR' -- "${value##*,}")
                     ;;
                 '')
-                    COMPREPLY=($(compgen -W 'delim= quote= escape= comment= header= skip= nullstr= allow_quoted_nulls=
+                    mapfile -t COMPREPLY < <(compgen -W 'delim= quote= escape= comment= header= skip= nullstr= allow_quoted_nulls=
                         all_varchar= names= types= sample_size= null_padding= ignore_errors= store_rejects=
-                        rejects_limit= max_line_size= max_input= threads= range_size= pipeline= stats=' -- "$word"))
+                        rejects_limit= max_line_size= max_input= threads= range_size= pipeline= stats=' -- "$word")
                     ;;
             esac
             [[ $word == *=* && -n $name && $word != = ]] && COMPREPLY=("${COMPREPLY[@]/#/$name=}")
@@ -47,4 +66,4 @@ _csvload() {
     esac
 }
 
-complete -o nospace -F _csvload csvload
+complete -F _csvload csvload

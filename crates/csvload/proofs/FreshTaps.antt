@@ -1,9 +1,8 @@
 -- The program's taps have seen nothing.
-use Rattle.std.proofs.Common.{◌≡◌, ℕ, ◌<◌, List, [], ◌∷◌, map, length, get_or, refl, sym, subst, arith}
+use Rattle.std.proofs.Common.{◌≡◌, ◌<◌, List, [], ◌∷◌, map, length, refl, sym, subst, arith}
 use Rattle.std.specs.Prelude.{All}
 use Rattle.std.proofs.lemmas.List.{length-map, get_or-map}
 use Rattle.std.proofs.lemmas.List.Elements.{All-nil, All-cons}
-use Rattle.column_taps.specs.declared.kind.TapKind.{TapKind}
 use Rattle.column_taps.specs.declared.kind.TapKind.TheVariants.{Count, Span, Width, Distinct}
 use Rattle.column_taps.specs.Seen.{Seen, nothing_seen, IsFresh}
 use Rattle.csvload.specs.ProgramTaps.{program_taps}

@@ -1,1 +1,2 @@
 pub mod FreshTaps
+pub mod NoRun

@@ -1,1 +1,3 @@
+pub mod OwnText
 pub mod ProgramTaps
+pub mod RunOf

@@ -1,12 +1,13 @@
 // The program's taps, and the run with them.
-ghost use Rattle.std.specs.Prelude.{◌≡◌, ◌++◌, ◌∷◌, [], map, IfOk, OnOk};
+ghost use Rattle.std.specs.Prelude.{◌≡◌, ◌++◌, ◌∷◌, [], map, IfOk, OnErr, OnOk};
 ghost use Rattle.column_taps.specs.Seen.{nothing_seen};
-ghost use Rattle.csv_loader.specs.Headline.{IsAnswer, Writes};
-ghost use Rattle.csv_loader.specs.Reply.{texts, reply_of};
+ghost use Rattle.csv_loader.specs.Headline.{ReadsNoFile};
+ghost use Rattle.csv_loader.specs.Reply.{texts};
 ghost use Rattle.csvload.specs.ProgramTaps.{program_taps};
+ghost use Rattle.csvload.specs.RunOf.{IsRun};
 
 use column_taps::{CountTap, DistinctTap, RowTap, SpanTap, TapKind, WidthTap};
-use csv_loader::run;
+use csv_loader::{Ending, run_to_ending};
 use csv_source::{Gate, NoMemory, Sink, Source};
 use std::alloc::Global;
 use std::sync::Wait;
@@ -28,35 +29,9 @@ fn hand_in(
     Ok(())
 }
 
-/// Takes the words to the loader with the program's taps.
-fn run_with<R: Threads + Wait + Sync, S: Source + Send, K: Sink, G: Gate>(
-    rt: &R,
-    alloc: Global,
-    words: &[String],
-    source: &mut S,
-    sink: &mut K,
-    gate: &G,
-    taps: Vec<Box<dyn RowTap>>,
-) -> u8
-    requires { map seen taps.items ≡ program_taps }
-    ensures answer { let reply = reply_of (texts words.now) (S.held source.old) program_taps in
-        IsAnswer result → Writes reply result (K.taken sink.old) (K.taken sink.new) }
-{
-    run(rt, alloc, words, source, sink, gate, taps)
-}
-
-/// Takes the words to the loader with the program's taps, and answers its status.
-pub fn load<R: Threads + Wait + Sync, S: Source + Send, K: Sink, G: Gate>(
-    rt: &R,
-    alloc: Global,
-    words: &[String],
-    source: &mut S,
-    sink: &mut K,
-    gate: &G,
-) -> Result<u8, NoMemory>
-    // An answer is the reply with these taps, in their order, and its whole text is written.
-    ensures answer { let reply = reply_of (texts words.now) (S.held source.old) program_taps in
-        IfOk result (λ status. IsAnswer status → Writes reply status (K.taken sink.old) (K.taken sink.new)) }
+/// The taps of the program, in the order in which they print.
+fn fresh_taps(alloc: Global) -> Result<Vec<Box<dyn RowTap>>, NoMemory>
+    ensures { IfOk result (λ taps. map seen taps.items ≡ program_taps) }
 {
     let mut taps: Vec<Box<dyn RowTap>> = Vec::new(alloc);
     hand_in(&mut taps, TapKind::Count, Box::new(alloc, CountTap::new())?)?;
@@ -75,5 +50,50 @@ pub fn load<R: Threads + Wait + Sync, S: Source + Send, K: Sink, G: Gate>(
         TapKind::Distinct(MOST_TEXTS),
         Box::new(alloc, DistinctTap::new(alloc, MOST_TEXTS))?,
     )?;
+    Ok(taps)
+}
+
+/// Takes the words to the loader with the program's taps.
+fn run_with<R: Threads + Wait + Sync, S: Source + Send, K: Sink, G: Gate>(
+    rt: &R,
+    alloc: Global,
+    words: &[String],
+    source: &mut S,
+    sink: &mut K,
+    gate: &G,
+    taps: Vec<Box<dyn RowTap>>,
+) -> Ending
+    requires { map seen taps.items ≡ program_taps }
+    ensures run { IsRun program_taps (texts words.now)
+        (record { held = S.held source.old; left = S.left source.old; faults = S.faults source.old })
+        (record { held = S.held source.new; left = S.left source.new; faults = S.faults source.new })
+        (record { taken = K.taken sink.old; faults = K.faults sink.old })
+        (record { taken = K.taken sink.new; faults = K.faults sink.new }) result }
+    ensures untouched { ReadsNoFile (texts words.now) → source.new ≡ source.old }
+{
+    run_to_ending(rt, alloc, words, source, sink, gate, taps)
+}
+
+/// Takes the words to the loader with the program's taps, and answers how the run ended.
+pub fn load<R: Threads + Wait + Sync, S: Source + Send, K: Sink, G: Gate>(
+    rt: &R,
+    alloc: Global,
+    words: &[String],
+    source: &mut S,
+    sink: &mut K,
+    gate: &G,
+) -> Result<Ending, NoMemory>
+    // All that the loader's call promises, with these taps in their order.
+    ensures run { IfOk result (λ ending. IsRun program_taps (texts words.now)
+        (record { held = S.held source.old; left = S.left source.old; faults = S.faults source.old })
+        (record { held = S.held source.new; left = S.left source.new; faults = S.faults source.new })
+        (record { taken = K.taken sink.old; faults = K.faults sink.old })
+        (record { taken = K.taken sink.new; faults = K.faults sink.new }) ending) }
+    ensures untouched { ReadsNoFile (texts words.now) → source.new ≡ source.old }
+
+    // Where the taps find no memory, nothing was read or written.
+    ensures err { OnErr result ((source.new ≡ source.old) × (sink.new ≡ sink.old)) }
+{
+    let taps = fresh_taps(alloc)?;
     Ok(run_with(rt, alloc, words, source, sink, gate, taps))
 }

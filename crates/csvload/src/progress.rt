@@ -1,5 +1,5 @@
 // A line on standard error that shows how far the reading has come.
-use csv_source::{Failed, NoMemory, Source};
+use csv_source::{NoMemory, STANDARD_INPUT};
 use std::alloc::Global;
 use std::fs;
 use std::io::Eprint;
@@ -19,7 +19,7 @@ const ERASE: &str = "\r\x1b[2K";
 
 /// A line that shows how much of a file was read, where its reading takes longer than a second.
 #[derive(Drop)]
-struct ProgressLine<'a, R> {
+pub struct ProgressLine<'a, R> {
     rt: &'a R,
     /// When the line is due; none where nothing is to be shown.
     next: Option<Instant>,
@@ -42,7 +42,7 @@ fn progress_text(alloc: Global, read: u64, size: u64) -> Result<String, NoMemory
 
 impl<'a, R: Clock + Eprint + Files + AllocGlobal> ProgressLine<'a, R> {
     /// Nothing was read, and nothing is ever shown where `shows` is false.
-    fn new(rt: &'a R, shows: bool) -> ProgressLine<'a, R> {
+    pub fn new(rt: &'a R, shows: bool) -> ProgressLine<'a, R> {
         let next = match Instant::now(rt) {
             Ok(now) if shows => now.checked_add(Duration::from_millis(SILENCE)),
             _ => None,
@@ -56,17 +56,20 @@ impl<'a, R: Clock + Eprint + Files + AllocGlobal> ProgressLine<'a, R> {
         }
     }
 
-    /// Begins with a file.
-    fn begin(&mut self, name: &str) {
+    /// Begins with a file. Of standard input no size is asked.
+    pub fn begin(&mut self, name: &str) {
         self.read = 0;
-        self.size = match fs::metadata(self.rt, name) {
-            Ok(metadata) => metadata.len(),
-            Err(_) => 0,
-        };
+        self.size = 0;
+        if name == STANDARD_INPUT {
+            return;
+        }
+        if let Ok(metadata) = fs::metadata(self.rt, name) {
+            self.size = metadata.len();
+        }
     }
 
     /// Goes on by so many bytes, and shows them where the line is due. One that can't be written is left out.
-    fn advance(&mut self, count: usize) {
+    pub fn advance(&mut self, count: usize) {
         self.read = self.read.saturating_add(count as u64);
         let (Some(next), Ok(now)) = (self.next, Instant::now(self.rt)) else {
             return;
@@ -83,54 +86,10 @@ impl<'a, R: Clock + Eprint + Files + AllocGlobal> ProgressLine<'a, R> {
     }
 
     /// Erases the line, where there is one, and shows none from then on.
-    fn finish(&mut self) {
+    pub fn finish(&mut self) {
         if self.shown {
             let _ = self.rt.eprint(ERASE);
         }
         self.next = None;
-    }
-}
-
-/// Files, and a line that shows how much of the open one was read. What was scanned is behind that: by the window under
-/// scan and, with several workers, by the next one, which is read meanwhile; with `pipeline=true`, whose reading waits for no
-/// scan, it may be further.
-#[derive(Drop)]
-pub struct ProgressSource<'a, R, S> {
-    files: S,
-    line: ProgressLine<'a, R>,
-}
-
-impl<'a, R: Clock + Eprint + Files + AllocGlobal, S: Source> ProgressSource<'a, R, S> {
-    /// Files of which nothing is shown yet, and never where `shows` is false.
-    pub fn new(rt: &'a R, files: S, shows: bool) -> ProgressSource<'a, R, S> {
-        ProgressSource {
-            files,
-            line: ProgressLine::new(rt, shows),
-        }
-    }
-
-    /// Erases the line, where there is one, and shows none from then on.
-    pub fn finish(&mut self) {
-        self.line.finish();
-    }
-}
-
-impl<'a, R: Clock + Eprint + Files + AllocGlobal, S: Source> Source for ProgressSource<'a, R, S> {
-    ghost held = { λ s. S.held s.files };
-
-    ghost left = { λ s. S.left s.files };
-
-    ghost faults = { λ s. S.faults s.files };
-
-    fn open(&mut self, name: &str) -> Result<(), Failed> {
-        self.files.open(name)?;
-        self.line.begin(name);
-        Ok(())
-    }
-
-    fn read(&mut self, buf: &mut [u8]) -> Result<usize, Failed> {
-        let count = self.files.read(buf)?;
-        self.line.advance(count);
-        Ok(count)
     }
 }

@@ -1,0 +1,124 @@
+"""The lines for words that are refused, and the words that ask for help."""
+
+from messages.runs import Case, check, run, same
+
+F = {"f.csv": b"a\n1\n"}
+
+HELP = " (see csvload --help)"
+
+NO_TYPE = "is no type (in upper case: BOOLEAN, BIGINT, DATE, TIME, TIMESTAMP, VARCHAR)"
+
+
+def refused(words: list[str], rule: str, index: int, line: str) -> Case:
+    """Words whose word of that place breaks a rule, and what is said."""
+    word = (words + [""])[index] if index < len(words) else ""
+    shown = word.replace("\\", "\\\\").replace("|", "\\|").replace("\x1b", "\\x1b").replace("\n", "\\n")
+    return Case(words, 1, f"csvload: {line}\n", f"refused|{rule}|{index}|{shown}\n".encode(), F)
+
+
+def option(word: str, rule: str, line: str) -> Case:
+    return refused(["load", "f.csv", word], rule, 2, line)
+
+
+COMMANDS = [
+    refused([], "NoCommand", 0, "a command is wanted: load, summary, convert, batch, sniff or make" + HELP),
+    refused(["frob"], "BadCommand", 0, "'frob' is no command: load, summary, convert, batch, sniff and make are" + HELP),
+    refused(["-v"], "BadCommand", 0, "'-v' is no command: load, summary, convert, batch, sniff and make are" + HELP),
+    refused(["load"], "NoFile", 1, "a file's name is wanted after load" + HELP),
+    refused(["load", ""], "NoFile", 1, "a file's name is wanted after load" + HELP),
+    refused(["batch"], "NoFile", 1, "names of files are wanted after batch" + HELP),
+    refused(["make"], "NoFile", 1, "a number is wanted after make" + HELP),
+    refused(["make", "x"], "BadValue", 1, "'x' is no number: make takes one from 0 to 4294967295"),
+    refused(
+        ["batch", "a.csv,,b.csv"],
+        "BadValue",
+        1,
+        "'a.csv,,b.csv' is refused: batch takes 1 to 1000 names with commas between them, none empty",
+    ),
+]
+
+OPTIONS = [
+    option("sep=,", "BadOption", "'sep=,' gives no option of load" + HELP),
+    option("header", "BadOption", "'header' is no option: one is written header=VALUE"),
+    option("--delim=,", "BadOption", "'--delim=,' is no option: one is written delim=VALUE, without dashes"),
+    option("--frob", "BadOption", "'--frob' is no option: one is written NAME=VALUE"),
+    option("b.csv", "BadOption", "'b.csv' is no option; several files: csvload batch f.csv,b.csv"),
+    option("b\x1b\n", "BadOption", r"'b\x1b\n' is no option; several files: csvload batch f.csv,b\x1b\n"),
+    refused(
+        ["load", "header=true", "f.csv"], "BadOption", 2, "'header=true' was taken as the file: the file comes first"
+    ),
+    refused(["load", "-d", ",", "f.csv"], "BadOption", 2, "'-d' was taken as the file: the file comes first"),
+    refused(["make", "7", "x"], "BadOption", 2, "'x' is no option: one is written NAME=VALUE"),
+    refused(
+        ["load", "f.csv", "header=true", "header=false"],
+        "Repeated",
+        3,
+        "'header=false' gives an option that 'header=true' gave before",
+    ),
+]
+
+VALUES = [
+    option("header=yes", "BadValue", "'header=yes' is refused: header takes true or false"),
+    option("threads=65", "BadValue", "'threads=65' is refused: threads takes a number from 1 to 64"),
+    option(
+        "sample_size=-1",
+        "BadValue",
+        "'sample_size=-1' is refused: sample_size takes a number from 1 to 1000000; 1000000 is the most",
+    ),
+    option("delim=ab", "BadValue", r"'delim=ab' is refused: delim takes one ASCII character, or \t for a tab"),
+    option("quote=ab", "BadValue", "'quote=ab' is refused: quote takes one ASCII character, or nothing"),
+    option("types=" + "BIGINT," * 49 + "bigint", "BadValue", "'bigint' " + NO_TYPE),
+    option("types=BIGINT, DATE", "BadValue", "' DATE' " + NO_TYPE),
+    option("names=a,b,a", "BadValue", "'a' stands twice in names"),
+    option("names=a,,b", "BadValue", "name 2 of names is empty"),
+    option("header=" + "x" * 70, "BadValue", f"'header={'x' * 53}..' is refused: header takes true or false"),
+]
+
+
+def conflict(words: list[str], index: int, line: str) -> Case:
+    return refused(["load", "f.csv", *words], "Conflict", index, line)
+
+
+CONFLICTS = [
+    conflict(["rejects_limit=10"], 2, "rejects_limit=10 wants store_rejects=true"),
+    conflict(
+        ["all_varchar=true", "types=DATE"], 3, "all_varchar=true and types=DATE can't stand together: each gives all types"
+    ),
+    conflict(["names=a,b", "types=DATE"], 3, "names gives 2 and types 1: as many of each are wanted"),
+    conflict(["quote=;", "delim=;"], 3, "delim=; and quote=; are the same character"),
+    conflict(["escape=;", "delim=;"], 3, "delim=; and escape=; are the same character"),
+    conflict(["comment=,", "delim=,"], 3, "comment=, and delim=, are the same character"),
+    conflict(["comment='", "quote='"], 3, "comment=' and quote=' are the same character"),
+    conflict(["comment=!", "escape=!"], 3, "comment=! and escape=! are the same character"),
+    conflict(["escape=!", "quote="], 3, "escape=! and quote= can't stand together: an escape wants a quote"),
+    conflict(
+        ["escape=!", "delim='", 'comment="'],
+        4,
+        "escape=! wants a quote, and delim and comment leave none to be found: give it by quote=",
+    ),
+]
+
+# All but the last are good.
+MANY = (
+    "load f.csv delim=, quote=' escape=' header=true skip=0 nullstr=x allow_quoted_nulls=true all_varchar=false names=a"
+    " types=BIGINT sample_size=9 null_padding=true ignore_errors=true store_rejects=true max_line_size=9 max_input=9"
+    " threads=1 range_size=9 stats=true pipeline=2"
+).split()
+
+MANY_WORDS = [refused(MANY, "BadValue", len(MANY) - 1, "'pipeline=2' is refused: pipeline takes true or false")]
+
+
+def check_own_texts() -> None:
+    """The help and the version, each by its words, and to nobody."""
+    help_text = run(["--help"], F)
+    same(help_text[0], 0, "--help")
+    assert help_text[1].startswith(b"csvload: finds how a CSV file is written") and help_text[2] == "", help_text
+    for words in [["-h"], ["help"], ["help", "load"], ["--help", "load"], ["load", "--help"], ["batch", "-h", "x"]]:
+        same(run(words, F), help_text, words)
+    for words in [["--version"], ["-V"], ["version"]]:
+        same(run(words, F), (0, b"csvload 0.2.0\n", ""), words)
+
+
+def main() -> None:
+    check(COMMANDS + OPTIONS + VALUES + CONFLICTS + MANY_WORDS)
+    check_own_texts()

@@ -1,0 +1,107 @@
+// Options that can't stand together.
+use crate::excerpt::shortened;
+use crate::given::{count_of_pieces, gives, value_of, word_giving};
+use csv_source::NoMemory;
+use std::alloc::Global;
+
+/// The pairs of options that can't be one character, in the order in which they are looked at.
+const PAIRS: [(&str, &str); 5] = [
+    ("delim", "quote"),
+    ("delim", "escape"),
+    ("comment", "delim"),
+    ("comment", "quote"),
+    ("comment", "escape"),
+];
+
+/// The character that a value gives, as it is compared.
+fn mark_of(word: &str) -> &str {
+    match value_of(word) {
+        "\\t" => "\t",
+        value => value,
+    }
+}
+
+/// Two words that give one character.
+fn same_character(words: &[String]) -> Option<(&str, &str)> {
+    for (first, second) in PAIRS {
+        if let (Some(first), Some(second)) = (
+            word_giving(words, first),
+            word_giving(words, second),
+        ) {
+            if mark_of(first) == mark_of(second) && mark_of(first) != "" {
+                return Some((first, second));
+            }
+        }
+    }
+    None
+}
+
+/// Names and types, where both are given.
+fn counts(alloc: Global, names: &str, types: &str) -> Result<String, NoMemory> {
+    let (names, types) = (
+        count_of_pieces(value_of(names)),
+        count_of_pieces(value_of(types)),
+    );
+    Ok(format!(in alloc; "names gives {names} and types {types}: as many of each are wanted")?)
+}
+
+/// Both words, and why they can't stand together.
+fn pair(alloc: Global, first: &str, second: &str, why: &str) -> Result<String, NoMemory> {
+    let (first, second) = (
+        shortened(alloc, first.as_bytes())?,
+        shortened(alloc, second.as_bytes())?,
+    );
+    Ok(format!(in alloc; "{first} and {second} {why}")?)
+}
+
+/// An escape without its quote.
+fn escape_alone(alloc: Global, words: &[String], escape: &str) -> Result<String, NoMemory> {
+    match word_giving(words, "quote") {
+        Some(quote) if value_of(quote) == "" => {
+            pair(
+                alloc,
+                escape,
+                quote,
+                "can't stand together: an escape wants a quote",
+            )
+        }
+        _ => {
+            let escape = shortened(alloc, escape.as_bytes())?;
+            Ok(format!(in alloc;
+                "{escape} wants a quote, and delim and comment leave none to be found: give it by quote="
+            )?)
+        }
+    }
+}
+
+/// Why the word at that place can't stand beside another.
+pub fn conflict(alloc: Global, words: &[String], word: &str) -> Result<String, NoMemory> {
+    if let Some(limit) = word_giving(words, "rejects_limit") {
+        if !gives(words, "store_rejects", "true") {
+            let limit = shortened(alloc, limit.as_bytes())?;
+            return Ok(format!(in alloc; "{limit} wants store_rejects=true")?);
+        }
+    }
+    if let (Some(all), Some(types)) = (
+        word_giving(words, "all_varchar"),
+        word_giving(words, "types"),
+    ) {
+        if value_of(all) == "true" {
+            return pair(
+                alloc,
+                all,
+                types,
+                "can't stand together: each gives all types",
+            );
+        }
+    }
+    if let (Some(names), Some(types)) = (word_giving(words, "names"), word_giving(words, "types")) {
+        if count_of_pieces(value_of(names)) != count_of_pieces(value_of(types)) {
+            return counts(alloc, names, types);
+        }
+    }
+    if let Some((first, second)) = same_character(words) {
+        return pair(alloc, first, second, "are the same character");
+    }
+    escape_alone(alloc, words, word_giving(words, "escape").unwrap_or(word))
+}

@@ -1,0 +1,63 @@
+// What the words give.
+use load_options::word_at;
+
+/// The file, the number or the names of files.
+const SUBJECT: usize = 1;
+
+/// The words behind the file that give options.
+const FIRST_OPTION: usize = 2;
+
+/// The command.
+pub fn command_word(words: &[String]) -> &str {
+    word_at(words, 0)
+}
+
+/// The word behind the command.
+pub fn subject(words: &[String]) -> &str {
+    word_at(words, SUBJECT)
+}
+
+/// What stands before the first `=` of a word, or the word.
+pub fn name_of(word: &str) -> &str {
+    match word.split_once('=') {
+        Some((name, _)) => name,
+        None => word,
+    }
+}
+
+/// What stands behind the first `=` of a word.
+pub fn value_of(word: &str) -> &str {
+    match word.split_once('=') {
+        Some((_, value)) => value,
+        None => "",
+    }
+}
+
+/// The first word that gives the option of that name.
+pub fn word_giving<'a>(words: &'a [String], name: &str) -> Option<&'a str> {
+    for word in words.iter().skip(FIRST_OPTION) {
+        let word = word.as_str();
+        if word.contains('=') && name_of(word) == name {
+            return Some(word);
+        }
+    }
+    None
+}
+
+/// Whether a word gives that value to the option of that name.
+pub fn gives(words: &[String], name: &str, value: &str) -> bool {
+    match word_giving(words, name) {
+        Some(word) => value_of(word) == value,
+        None => false,
+    }
+}
+
+/// Whether an option is given.
+pub fn is_given(words: &[String], name: &str) -> bool {
+    word_giving(words, name).is_some()
+}
+
+/// How many pieces a value has that is cut at commas.
+pub fn count_of_pieces(value: &str) -> usize {
+    value.split(',').count()
+}
