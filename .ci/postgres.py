@@ -125,12 +125,12 @@ def check_hard_rows(server: Server) -> None:
 def check_rejects(server: Server) -> None:
     """Rejects stand in their tables, each load's under the next number, after the hard rows' 0."""
     file = EXAMPLES / "scores.csv"
-    same(server.load(file, "scores", OPTIONS), (0, ""))
+    same(server.load(file, "scores", OPTIONS), (0, f"csvload: {file}: 1 fault was passed over\n"))
     same(server.ask("SELECT * FROM scores"), SCORES)
     same(server.ask(ERRORS), [[1, *ERROR[1:]]])
     long = "é" * 3_000
     text = 'id,note\n1,a\n2,"ä'.encode() + b'\xfc|\\"\nx,' + f"{long}\n".encode()
-    same(server.load("-", "broken", ["types=BIGINT,VARCHAR"], text), (0, ""))
+    same(server.load("-", "broken", ["types=BIGINT,VARCHAR"], text), (0, "csvload: -: 2 faults were passed over\n"))
     same(server.ask("SELECT * FROM broken"), [[1, "a"]])
     broken = [2, 3, 13, 18, 2, "note", "INVALID UNICODE", '2,"ä\\xfc|\\"']
     cut = [2, 4, 23, 23, 1, "id", "CAST", f"x,{long[:2047]}"]

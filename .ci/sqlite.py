@@ -58,13 +58,13 @@ def tables_of(database: pathlib.Path) -> list[tuple]:
 def check_rejects(folder: pathlib.Path) -> None:
     """The typed table, its rejects, and those of a second file under the next number."""
     database, file = folder / "scores.db", EXAMPLES / "scores.csv"
-    same(load(file, database, OPTIONS), (0, ""))
+    same(load(file, database, OPTIONS), (0, f"csvload: {file}: 1 fault was passed over\n"))
     same(ask(database, "SELECT player, score, played FROM scores"), ROWS)
     same(ask(database, ERRORS), [ERROR])
     same(ask(database, "SELECT file_path, delimiter, columns FROM reject_scans"), [(str(file), ",", 3)])
     again = folder / "again.csv"
     again.write_bytes(b'id,note\n1,a\n2,"\xfc|\\"\nx,c\n')
-    same(load(again, database, ["types=BIGINT,VARCHAR"]), (0, ""))
+    same(load(again, database, ["types=BIGINT,VARCHAR"]), (0, f"csvload: {again}: 2 faults were passed over\n"))
     same(ask(database, "SELECT * FROM again"), [(1, "a")])
     same(ask(database, "SELECT scan_id, file_path FROM reject_scans"), [(0, str(file)), (1, str(again))])
     broken = (1, 3, 13, 16, 2, "note", "INVALID UNICODE", b'2,"\xfc|\\"')
