@@ -1,13 +1,14 @@
 //! Tables that are taken in, and the chunks that they bring.
-ghost use Rattle.std.specs.Prelude.{◌≡◌, ◌<◌, ◌^◌, ◌∷◌, [], length, IfOk, OnOk};
+ghost use Rattle.std.specs.Prelude.{◌≡◌, ◌∷◌, [], length, IfOk};
 ghost use Rattle.value_types.specs.declared.types.ColumnType.TheVariants.{Bigint};
 
 use super::cells::is_value;
+use super::extents::table_of;
 use column_store::Table;
 use csv_source::NoMemory;
 use std::alloc::Global;
 use std::process::Abort;
-use value_types::{Cell, Cells, ColumnType, Types, Value};
+use value_types::{ColumnType, Types, Value};
 
 /// A table of one column of numbers without a row.
 fn no_rows(alloc: Global) -> Result<Table, NoMemory>
@@ -22,25 +23,23 @@ fn no_rows(alloc: Global) -> Result<Table, NoMemory>
 fn numbers(alloc: Global, from: i64, end: i64) -> Result<Table, NoMemory>
     ensures { IfOk result (λ table. table.types ≡ Bigint ∷ []) }
 {
-    let mut table = no_rows(alloc)?;
-    let mut row = Cells::new(alloc);
+    let mut numbers = Vec::new(alloc);
     for number in from..end {
-        row.clear();
-        row.push(Cell::Value(Value::Int(number)))?;
-        table.push_row(&row)?;
+        numbers.push(Some(number))?;
     }
-    Ok(table)
+    table_of(alloc, &numbers)
 }
 
 /// Takes in a table of the next numbers for each count, as many as it says.
-fn take_counts(alloc: Global, table: &mut Table, counts: &[usize]) -> Result<(), NoMemory>
+fn take_counts(alloc: Global, table: &mut Table, counts: &[u32]) -> Result<(), NoMemory>
     requires { table.old.types ≡ Bigint ∷ [] }
     ensures { table.new.types ≡ Bigint ∷ [] }
 {
+    let mut next = 0i64;
     for count in counts {
-        let rows = table.rows() as i64;
-        let end = rows.saturating_add(*count as i64);
-        table.take_in(numbers(alloc, rows, end)?)?;
+        let end = next.saturating_add(i64::from(*count));
+        table.take_in(numbers(alloc, next, end)?)?;
+        next = end;
     }
     Ok(())
 }
@@ -49,10 +48,12 @@ fn take_counts(alloc: Global, table: &mut Table, counts: &[usize]) -> Result<(),
 fn counts_up(table: &Table) -> bool
     requires { length table.now.types ≡ 1 }
 {
+    let mut number = 0i64;
     for row in 0..table.rows() {
-        if !is_value(table.cell_at(0, row), Value::Int(row as i64)) {
+        if !is_value(table.cell_at(0, row), Value::Int(number)) {
             return false;
         }
+        number = number.saturating_add(1);
     }
     true
 }
@@ -69,7 +70,7 @@ fn chunk_rows(alloc: Global, table: &Table) -> Result<Vec<usize>, NoMemory> {
 }
 
 /// How many rows the tables have that are taken in, and how many the chunks that they come to.
-struct Taken(&'static [usize], &'static [usize]);
+struct Taken(&'static [u32], &'static [usize]);
 
 const TAKEN: [Taken; 11] = [
     Taken(&[], &[0]),

@@ -33,7 +33,7 @@ fn push(chunk: &mut Chunk, number: Option<i64>) -> Result<(), NoMemory>
 }
 
 /// A table of a column of numbers, made of a chunk.
-fn table_of(alloc: Global, numbers: &[Option<i64>]) -> Result<Table, NoMemory>
+pub(super) fn table_of(alloc: Global, numbers: &[Option<i64>]) -> Result<Table, NoMemory>
     ensures { IfOk result (λ table. table.types ≡ column.Bigint ∷ []) }
 {
     let mut types = Types::new(alloc);
