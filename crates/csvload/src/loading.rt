@@ -29,30 +29,6 @@ fn hand_in(
     Ok(())
 }
 
-/// The taps of the program, in the order in which they print.
-fn fresh_taps(alloc: Global) -> Result<Vec<Box<dyn RowTap>>, NoMemory>
-    ensures { IfOk result (λ taps. map seen taps.items ≡ program_taps) }
-{
-    let mut taps: Vec<Box<dyn RowTap>> = Vec::new(alloc);
-    hand_in(&mut taps, TapKind::Count, Box::new(alloc, CountTap::new())?)?;
-    hand_in(
-        &mut taps,
-        TapKind::Span,
-        Box::new(alloc, SpanTap::new(alloc))?,
-    )?;
-    hand_in(
-        &mut taps,
-        TapKind::Width,
-        Box::new(alloc, WidthTap::new(alloc))?,
-    )?;
-    hand_in(
-        &mut taps,
-        TapKind::Distinct(MOST_TEXTS),
-        Box::new(alloc, DistinctTap::new(alloc, MOST_TEXTS))?,
-    )?;
-    Ok(taps)
-}
-
 /// Takes the words to the loader with the program's taps.
 fn run_with<R: Threads + Wait + Sync, S: Source + Send, K: Sink, G: Gate>(
     rt: &R,
@@ -94,6 +70,23 @@ pub fn load<R: Threads + Wait + Sync, S: Source + Send, K: Sink, G: Gate>(
     // Where the taps find no memory, nothing was read or written.
     ensures err { OnErr result ((source.new ≡ source.old) × (sink.new ≡ sink.old)) }
 {
-    let taps = fresh_taps(alloc)?;
+    // In the order in which they print.
+    let mut taps: Vec<Box<dyn RowTap>> = Vec::new(alloc);
+    hand_in(&mut taps, TapKind::Count, Box::new(alloc, CountTap::new())?)?;
+    hand_in(
+        &mut taps,
+        TapKind::Span,
+        Box::new(alloc, SpanTap::new(alloc))?,
+    )?;
+    hand_in(
+        &mut taps,
+        TapKind::Width,
+        Box::new(alloc, WidthTap::new(alloc))?,
+    )?;
+    hand_in(
+        &mut taps,
+        TapKind::Distinct(MOST_TEXTS),
+        Box::new(alloc, DistinctTap::new(alloc, MOST_TEXTS))?,
+    )?;
     Ok(run_with(rt, alloc, words, source, sink, gate, taps))
 }
