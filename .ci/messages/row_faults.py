@@ -158,6 +158,8 @@ def check_packed() -> None:
     status, _, said = run(["load", "my f.gz"], {"my f.gz": PACKED})
     same((status, said.splitlines(True)[-1]), (3, zipped), "gzip")
     same(run(["sniff", "my f.gz"], {"my f.gz": PACKED})[2], zipped.replace("load -", "sniff -"), "gzip")
+    quoted = zipped.replace("my f.gz", r"it'\''s.gz").replace("load -", "sniff -")
+    same(run(["sniff", "it's.gz"], {"it's.gz": PACKED})[2], quoted, "gzip")
     same(run(["sniff", "-"], {}, PACKED)[2], "csvload: the input is compressed: gunzip -c | csvload sniff -\n", "gzip")
     for code in ["utf-16-le", "utf-16-be"]:
         status, _, said = run(["load", "f.csv"], {"f.csv": "\ufeffa,b\n1,2\n".encode(code)})

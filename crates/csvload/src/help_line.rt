@@ -48,7 +48,16 @@ fn shell_word(alloc: Global, name: &str) -> Result<String, NoMemory> {
     if name.bytes().all(is_plain) {
         return Ok(shown_name);
     }
-    Ok(format!(in alloc; "'{shown_name}'")?)
+    let mut word = String::from_str(alloc, "'")?;
+    for character in shown_name.chars() {
+        match character {
+            // No backslash is heard between single quotes, so one of them ends the text before it.
+            '\'' => word.push_str("'\\''")?,
+            _ => word.push(character)?,
+        }
+    }
+    word.push('\'')?;
+    Ok(word)
 }
 
 /// How a file that is packed is read.
