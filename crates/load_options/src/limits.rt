@@ -67,5 +67,8 @@ pub const ROWS: NumberRange = NumberRange {
     default: 1_000,
 };
 
+/// The most bytes of the name of a database's table.
+pub const TABLE_NAME_LIMIT: usize = 1_000;
+
 /// The most names, or types, of a list.
 pub const COLUMN_LIMIT: usize = 1_000_000;

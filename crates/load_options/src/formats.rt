@@ -1,0 +1,36 @@
+//! Words that give the format in which rows are written.
+ghost use Rattle.std.specs.Prelude.{◌≡◌};
+ghost use Rattle.load_options.specs.Formats.{format_named, is_sqlite, writes};
+
+use crate::options::{Command, OutputFormat};
+
+/// The format of that name.
+pub fn format_named(text: &[u8]) -> Option<OutputFormat>
+    ensures { result ≡ format_named text.now }
+{
+    if text == b"csv".as_slice() {
+        Some(OutputFormat::Csv)
+    } else if text == b"sqlite".as_slice() {
+        Some(OutputFormat::Sqlite)
+    } else {
+        None
+    }
+}
+
+/// Whether a format is that of a database.
+pub fn is_sqlite(format: Option<OutputFormat>) -> bool
+    ensures { result ≡ is_sqlite format }
+{
+    matches!(format, Some(OutputFormat::Sqlite))
+}
+
+/// Whether a command writes a format.
+pub fn writes(command: Command, format: OutputFormat) -> bool
+    ensures { result ≡ writes command format }
+{
+    match command {
+        Command::Convert => true,
+        Command::Batch => format == OutputFormat::Sqlite,
+        Command::Load | Command::Sniff | Command::Summary | Command::Make => false,
+    }
+}
