@@ -14,6 +14,8 @@ use Rattle.csv_sniffer.specs.declared.found.Newline.TheVariants as newline
 use Rattle.csv_sniffer.specs.declared.found.Sniffed.{Sniffed}
 use Rattle.reject_book.specs.declared.reject.Reject.{Reject}
 use Rattle.reject_book.specs.Kind.{name_of_kind}
+use Rattle.report_text.specs.declared.outcome.Mismatch.{Mismatch}
+use Rattle.report_text.specs.declared.outcome.Mismatch.TheVariants.{TooManyColumns}
 use Rattle.report_text.specs.declared.outcome.Stats.{Stats}
 use Rattle.csv_source.specs.Shown.{shown, shown_option}
 
@@ -115,3 +117,9 @@ read_fault_line = line_of (codes "fault" ∷ codes "read" ∷ [])
 
 abbrev pub too_large_line : ℕ → List ℕ
 too_large_line limit = line_of (codes "fault" ∷ (codes "input over " ++ decimal limit ++ codes " bytes") ∷ [])
+
+abbrev pub too_many_columns_line : ℕ → List ℕ
+too_many_columns_line limit = line_of (codes "fault" ∷ (codes "more than " ++ decimal limit ++ codes " columns") ∷ [])
+
+abbrev pub mismatch_line : Mismatch → List ℕ
+mismatch_line (TooManyColumns limit) = too_many_columns_line limit

@@ -26,6 +26,7 @@ abbrev pub IsPrintable : Outcome → Type 0
 IsPrintable (outcome.Refused fault word) = ⊤
 IsPrintable outcome.ReadFault = ⊤
 IsPrintable (outcome.TooLarge limit) = ⊤
+IsPrintable (outcome.Mismatch mismatch) = ⊤
 IsPrintable (outcome.Sniffed s) = length s.names ≡ length s.types
 IsPrintable (outcome.Loaded l) = IsPrintableLoad l
 IsPrintable (outcome.Summary l tap_lines) = IsPrintableLoad l

@@ -1,7 +1,8 @@
 // The lines of requests that weren't done.
 ghost use Rattle.std.specs.Prelude.{◌≡◌, ◌++◌, OnOk};
-ghost use Rattle.report_text.specs.Lines.{read_fault_line, refused_line, rule_name, too_large_line};
+ghost use Rattle.report_text.specs.Lines.{mismatch_line, read_fault_line, refused_line, rule_name, too_large_line, too_many_columns_line};
 
+use crate::Mismatch;
 use crate::lines::{Part, push_line, push_number, push_plain};
 use csv_source::NoMemory;
 use load_options::{WordFault, WordRule};
@@ -54,4 +55,22 @@ pub(crate) fn push_too_large(into: &mut Vec<u8>, limit: u64) -> Result<(), NoMem
     push_plain(into, b"fault|input over ")?;
     push_number(into, limit)?;
     push_plain(into, b" bytes\n")
+}
+
+/// Appends the line of a file that has more columns than these.
+fn push_too_many_columns(into: &mut Vec<u8>, limit: u64) -> Result<(), NoMemory>
+    ensures { OnOk result (into.new.items ≡ into.old.items ++ too_many_columns_line limit) }
+{
+    push_plain(into, b"fault|more than ")?;
+    push_number(into, limit)?;
+    push_plain(into, b" columns\n")
+}
+
+/// Appends the line of words that don't fit the file.
+pub(crate) fn push_mismatch(into: &mut Vec<u8>, mismatch: Mismatch) -> Result<(), NoMemory>
+    ensures { OnOk result (into.new.items ≡ into.old.items ++ mismatch_line mismatch) }
+{
+    match mismatch {
+        Mismatch::TooManyColumns(limit) => push_too_many_columns(into, limit),
+    }
 }

@@ -21,5 +21,5 @@ mod text;
 mod workers;
 
 pub use made::make_text;
-pub use outcome::{Loaded, Outcome, Stats};
+pub use outcome::{Loaded, Mismatch, Outcome, Stats};
 pub use text::render;

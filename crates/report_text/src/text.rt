@@ -5,7 +5,7 @@ ghost use Rattle.report_text.specs.Report.{closing_lines, found_lines, has_rows,
 ghost use Rattle.report_text.specs.Printable.{IsPrintable, IsPrintableLoad};
 
 use crate::batch::push_batch;
-use crate::faults::{push_read_fault, push_refused, push_too_large};
+use crate::faults::{push_mismatch, push_read_fault, push_refused, push_too_large};
 use crate::found::push_found;
 use crate::lines::{push_errors, push_row_count, push_stats_of};
 use crate::rejects::{push_reject, push_rejects, stored_count};
@@ -76,6 +76,7 @@ fn push_short(into: &mut Vec<u8>, outcome: &Outcome) -> Result<(), NoMemory>
         Outcome::Refused(fault, word) => push_refused(into, fault, word.as_slice()),
         Outcome::ReadFault => push_read_fault(into),
         Outcome::TooLarge(limit) => push_too_large(into, *limit),
+        Outcome::Mismatch(mismatch) => push_mismatch(into, *mismatch),
         Outcome::Sniffed(sniffed) => push_found(into, sniffed),
         Outcome::Summary(loaded, taps) => push_summary(into, loaded, taps.as_slice()),
         Outcome::FirstError(sniffed, reject) => push_first_error(into, sniffed, reject),

@@ -13,7 +13,7 @@ use csv_sniffer::{Newline, Sniffed};
 use csv_source::{Bytes, NoMemory};
 use load_options::{WordFault, WordRule};
 use reject_book::{Book, ErrorKind, Keep, Reject};
-use report_text::{Loaded, Outcome, Stats, make_text, render};
+use report_text::{Loaded, Mismatch, Outcome, Stats, make_text, render};
 use std::alloc::Global;
 use std::thread::Threads;
 use value_types::{Cell, Cells, Names, Types};
@@ -115,6 +115,7 @@ enum Kind {
     Refused,
     ReadFault,
     TooLarge,
+    Mismatch,
     Sniffed,
     Rows,
     RowsAndRejects,
@@ -138,6 +139,7 @@ fn outcome(alloc: Global, kind: Kind) -> Result<Outcome, NoMemory>
         Kind::Refused => Outcome::Refused(fault, Bytes::copy_of(alloc, b"x|y")?),
         Kind::ReadFault => Outcome::ReadFault,
         Kind::TooLarge => Outcome::TooLarge(4096),
+        Kind::Mismatch => Outcome::Mismatch(Mismatch::TooManyColumns(2000)),
         Kind::Sniffed => Outcome::Sniffed(sniffed(alloc)?),
         Kind::Rows => Outcome::Loaded(loaded(alloc, false, None)?),
         Kind::RowsAndRejects => Outcome::Loaded(loaded(alloc, true, stats)?),
@@ -153,10 +155,11 @@ fn outcome(alloc: Global, kind: Kind) -> Result<Outcome, NoMemory>
 struct Report(Kind, &'static [&'static [u8]]);
 
 /// The lines that the loader's manual gives for each kind of report.
-const REPORTS: [Report; 8] = [
+const REPORTS: [Report; 9] = [
     Report(Kind::Refused, &[b"refused|BadOption|3|x\\|y\n"]),
     Report(Kind::ReadFault, &[b"fault|read\n"]),
     Report(Kind::TooLarge, &[b"fault|input over 4096 bytes\n"]),
+    Report(Kind::Mismatch, &[b"fault|more than 2000 columns\n"]),
     Report(Kind::Sniffed, &[FOUND]),
     Report(Kind::Rows, &[FOUND, ROWS, b"rows|2\nerrors|0|2\n"]),
     Report(
