@@ -1,0 +1,25 @@
+-- What holds of pages, whoever wrote them.
+use Rattle.std.specs.Prelude.{◌≡◌, ℕ, ◌+◌, ◌%◌, true, List, [], ◌∷◌, ◌++◌, length, map}
+use Rattle.db_records.specs.Record.{record_bytes}
+use Rattle.db_pages.specs.Laid.{Laid, next_place, with_rows}
+use Rattle.db_pages.specs.Grown.{behind, grown, holds_at, tree_of}
+use Rattle.db_pages.specs.Image.{Tabled, imaged, with_table}
+
+-- rows that are laid out behind others are laid out with them
+abbrev pub RowsFollow : Type 0
+RowsFollow =
+    (base first : ℕ) (laid : Laid) (rows more : List (List ℕ)) →
+    with_rows base (with_rows base laid first rows) (first + length rows) more ≡ with_rows base laid first (rows ++ more)
+
+-- two groups of rows, the first of whole blocks, join to the pages of all rows, where those of the second hold behind the first
+abbrev pub GroupsJoin : Type 0
+GroupsJoin =
+    (base first from : ℕ) (rows more : List (List ℕ)) → (first + length rows) % 8192 ≡ 1 →
+    holds_at (next_place base (grown base first rows).pages) (grown from (first + length rows) more) ≡ true →
+    behind (grown base first rows) (grown from (first + length rows) more) ≡ grown base first (rows ++ more)
+
+-- a table whose tree is written behind those of others is one more of them
+abbrev pub TablesFollow : Type 0
+TablesFollow =
+    (tables : List Tabled) (table : Tabled) →
+    with_table (imaged tables) table.name table.sql (tree_of (next_place 1 (imaged tables).trees) (map record_bytes table.rows)) ≡ imaged (tables ++ table ∷ [])

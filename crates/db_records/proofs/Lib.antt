@@ -1,0 +1,4 @@
+pub mod Varints
+pub mod Records
+pub mod Cells
+pub mod Pages

@@ -1,0 +1,17 @@
+// The cells of rows.
+ghost use Rattle.std.specs.Prelude.{◌≡◌, ◌++◌, OnOk};
+ghost use Rattle.db_records.specs.Cell.{cell_bytes};
+
+use crate::appending::append;
+use crate::varint::push_varint;
+use csv_source::NoMemory;
+
+/// Appends the cell of a row, whose record stays whole in it.
+#[inline(always)]
+pub fn push_cell(into: &mut Vec<u8>, rowid: u64, row: &[u8]) -> Result<(), NoMemory>
+    ensures ok { OnOk result (into.new.items ≡ into.old.items ++ cell_bytes rowid row.now) }
+{
+    push_varint(into, row.len() as u64)?;
+    push_varint(into, rowid)?;
+    append(into, row)
+}

@@ -1,0 +1,21 @@
+//! Rows as the records of an SQLite database ("Database File Format", sections 1.6 and 2.1).
+//!
+//! A number takes one to eight bytes. A record is a header with the type of each value, and the values behind one another;
+//! a row is filled value by value into two lists, of types and of values, and then written as one record. A cell is a
+//! record with its length and its rowid, and a leaf holds the cells of rows. What is written reads back by the kit's own
+//! definitions of the format.
+#![tactic(auto)]
+
+mod appending;
+mod cell;
+pub mod laws;
+mod leaf;
+mod record;
+mod values;
+mod varint;
+
+pub use cell::push_cell;
+pub use leaf::push_leaf;
+pub use record::push_record;
+pub use values::{push_blob, push_integer, push_null, push_text};
+pub use varint::push_varint;

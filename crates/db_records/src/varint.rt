@@ -1,0 +1,48 @@
+// Numbers of one to eight bytes, the most significant digits first.
+ghost use Rattle.std.specs.Prelude.{◌≡◌, ◌++◌, OnOk};
+ghost use Rattle.db_records.specs.Varint.{digits_before, marked, varint};
+
+use crate::appending::append;
+use csv_source::NoMemory;
+
+/// Appends the last digits of a number to base 128, as many as asked, each with the mark that more follow.
+fn push_marked(into: &mut Vec<u8>, count: u32, value: u64) -> Result<(), NoMemory>
+    ensures ok { OnOk result (into.new.items ≡ into.old.items ++ marked count value) }
+{
+    if count > 0 {
+        push_marked(into, count - 1, value / 128)?;
+        append(into, &[128 + (value % 128) as u8])?;
+    }
+    Ok(())
+}
+
+/// How many digits stand before the last one.
+fn digits_before(value: u64) -> u32
+    ensures { result ≡ digits_before value }
+{
+    if value < 1 << 7 {
+        0
+    } else if value < 1 << 14 {
+        1
+    } else if value < 1 << 21 {
+        2
+    } else if value < 1 << 28 {
+        3
+    } else if value < 1 << 35 {
+        4
+    } else if value < 1 << 42 {
+        5
+    } else if value < 1 << 49 {
+        6
+    } else {
+        7
+    }
+}
+
+/// Appends a number in its shortest form, where it is below 2^56: of a larger one the last eight digits.
+pub fn push_varint(into: &mut Vec<u8>, value: u64) -> Result<(), NoMemory>
+    ensures ok { OnOk result (into.new.items ≡ into.old.items ++ varint value) }
+{
+    push_marked(into, digits_before(value), value / 128)?;
+    append(into, &[(value % 128) as u8])
+}

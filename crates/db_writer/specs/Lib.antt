@@ -1,0 +1,5 @@
+pub mod Stored
+pub mod Naming
+pub mod Definitions
+pub mod Rejects
+pub mod Database

@@ -1,0 +1,27 @@
+-- The names of columns in a database (SQLite, "SQL Language Expressions": names are compared without ASCII case; how equal ones are made different is this writer's profile).
+use Rattle.std.specs.Prelude.{ℕ, ◌==◌, Bool, if◌then◌else◌, List, [], ◌∷◌, length, map}
+use Rattle.std.specs.Char.{to_ascii_lowercase}
+use Rattle.std.specs.Str.{byte}
+use Rattle.load_options.specs.Texts.{is_among}
+use Rattle.csv_sniffer.specs.ColumnNames.{first_free}
+
+-- a name with ASCII capitals as small letters
+abbrev pub folded : List ℕ → List ℕ
+folded name = map to_ascii_lowercase name
+
+-- a name with each NUL byte, which would end it, as `_`
+abbrev pub clean_name : List ℕ → List ℕ
+clean_name name = map (λ b. if b == 0 then byte "_" else b) name
+
+-- whether an earlier name is the same without ASCII case
+abbrev pub is_same_name : List (List ℕ) → List ℕ → Bool
+is_same_name earlier name = is_among (map folded earlier) (folded name)
+
+-- names made different without ASCII case, from left to right, behind earlier ones: a name, or the first of the name with `_1`, `_2` and so on
+abbrev pub names_apart : List (List ℕ) → List (List ℕ) → List (List ℕ)
+names_apart earlier [] = []
+names_apart earlier (name ∷ names) =
+    let free = first_free (is_same_name earlier) (length earlier) name in free ∷ names_apart (free ∷ earlier) names
+
+abbrev pub database_names : List (List ℕ) → List (List ℕ)
+database_names names = names_apart [] (map clean_name names)

@@ -1,0 +1,11 @@
+//! A loaded table and its rejects as an SQLite database.
+//!
+//! The database has three tables: the rows, typed, under a name of the caller's choice, and the two tables of rejects of
+//! DuckDB's manual, `reject_scans` and `reject_errors`. Its text is one function of what was loaded: a header's page, the
+//! pages of each table, and those of the list of tables (SQLite, "Database File Format"). Blocks of 8,192 rows begin a
+//! page of their own, so that workers write groups of blocks side by side, and what each wrote is a piece of the text.
+#![tactic(auto)]
+
+mod database;
+
+pub use database::write_database;
