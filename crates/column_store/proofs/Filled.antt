@@ -200,11 +200,14 @@ module _ (xs : List Column) (rows begun : ℕ) (tys : List ColumnType) (unfinish
   pub column_inside : begun < length xs
   column_inside = omega (arith, begun_is, length-map xs type_of, ap length types, next)
 
+  pub next_type : (was : Column) → was ≡ get_or xs begun was → slice_get tys (length unfinished) ≡ Some (type_of was)
+  next_type was is =
+      (λ i. slice_get (sym types i) (begun_is i))
+      ∙ slice_get-get_or (map type_of xs) begun (type_of was) (omega (arith, column_inside, length-map xs type_of))
+      ∙ ap Some (get_or-map type_of xs begun was (type_of was) column_inside ∙ ap type_of (sym is))
+
   pub spelled_as : (text : List ℕ) (was : Column) → was ≡ get_or xs begun was → option_and_then (typed_cell text) (slice_get tys (length unfinished)) ≡ typed_cell text (type_of was)
-  spelled_as text was is =
-      (λ i. option_and_then (typed_cell text) (slice_get (sym types i) (begun_is i)))
-      ∙ ap (option_and_then (typed_cell text)) (slice_get-get_or (map type_of xs) begun (type_of was) (omega (arith, column_inside, length-map xs type_of))
-      ∙ ap Some (get_or-map type_of xs begun was (type_of was) column_inside ∙ ap type_of (sym is)))
+  spelled_as text was is = ap (option_and_then (typed_cell text)) (next_type was is)
 
 -- a cell that is there, and one that isn't
 pub one_more : (o : Option Datum) → true ≡ is_some o → (cell : Datum) × (option_to_list o ≡ cell ∷ [])

@@ -1,10 +1,12 @@
 // A chunk of rows.
-ghost use Rattle.std.specs.Prelude.{◌≡◌, ◌≤◌, ◌<◌, ◌+◌, ◌-◌, ◌++◌, ◌∷◌, ◌^◌, [], is_some, length, slice_get, slice_range, take, IfOk, IsTrue, OnErr, OnOk, Some};
+ghost use Rattle.std.specs.Prelude.{◌≡◌, ◌≤◌, ◌<◌, ◌+◌, ◌-◌, ◌++◌, ◌∷◌, ◌^◌, [], is_some, length, slice_get, slice_range, take, IfOk, IfSome, IsTrue, None, OnErr, OnOk, Some};
 ghost use Rattle.std.specs.Option.{option_to_list};
 ghost use Rattle.value_types.specs.Datum.{datum_of, typed};
+ghost use Rattle.value_types.specs.declared.types.ColumnType.{ColumnType};
 ghost use Rattle.value_types.specs.declared.types.ColumnType.TheVariants.{Bigint};
 ghost use Rattle.value_types.specs.declared.types.Value.TheVariants.{Int};
 ghost use Rattle.value_types.specs.OfType.{fit_all};
+ghost use Rattle.value_types.specs.Plain.{IsPlainAt};
 ghost use Rattle.column_store.specs.NextCell.{spelled_cell};
 ghost use Rattle.column_store.specs.RowsOfColumns.{FitsColumn, HasNoTexts};
 ghost use Rattle.column_store.specs.TableView.{cell_of};
@@ -135,6 +137,27 @@ impl Chunk {
             return Ok(true);
         }
         Ok(false)
+    }
+
+    /// Appends the value of the next column's type whose plain form begins at a place to the row under way, and answers where
+    /// it ends. None, and nothing is appended, where `push_spelled` has to be asked.
+    #[inline(always)]
+    pub fn push_front(&mut self, bytes: &[u8], from: usize) -> Result<Option<usize>, NoMemory>
+        requires next { length self.old.unfinished < length self.old.types }
+        requires within { from ≤ length bytes.now }
+        ensures at { IfOk result (λ found. IfSome found (λ end. (ty : ColumnType) → slice_get self.old.types (length self.old.unfinished) ≡ Some ty → IsPlainAt ty bytes.now from end)) }
+        ensures ok { IfOk result (λ found. IfSome found (λ end. self.new ≡ record self.old { unfinished = self.old.unfinished ++ option_to_list (spelled_cell self.old (slice_range bytes.now from end)) })) }
+        ensures none { IfOk result (λ found. found ≡ None → self.new ≡ self.old) }
+        ensures err { OnErr result (self.new ≡ self.old) }
+    {
+        let roomy = self.spare > 0;
+        match self.columns[self.begun].push_front(bytes, from, roomy)? {
+            Some(end) => {
+                self.begun += 1;
+                Ok(Some(end))
+            }
+            None => Ok(None),
+        }
     }
 
     /// Keeps the first rows alone, and nothing of the row under way. Rows that go are spare again.
