@@ -1,6 +1,6 @@
 -- The columns of a chunk through its calls.
 use Rattle.std.proofs.Common.{◌≡◌, ◌≢◌, ℕ, zero, suc, ◌+◌, ◌-◌, ◌^◌, ◌<◌, ◌≤◌, refl, sym, ap, ◌∙◌, subst, arith, List, [], ◌∷◌, ◌++◌, length, get_or, set, take, map, inl, inr, Result, Ok, Err, true, false, Option, Some, None, is_some, append-nil}
-use Rattle.std.specs.Prelude.{All, OnErr, option_and_then, slice_get}
+use Rattle.std.specs.Prelude.{All, OnErr, OnOk, option_and_then, slice_get}
 use Rattle.std.specs.Option.{option_to_list}
 use Rattle.std.proofs.lemmas.Bool.{cases_eq, cases_lt, and_parts, false≢true}
 use Rattle.std.proofs.lemmas.List.{length-append, length-map, length-set, length-take, get_or_default, get_or-set_same, get_or-set_other, get_or_push, get_or-map, map-set, map_push, take-take, take_more_set, take-set, take_all, take_at, take_more}
@@ -181,6 +181,10 @@ same_view t r u s = λ i. record { types = t i; rows = r i; unfinished = u i; sp
 pub on_err : {T E Q : Type 0} (r : Result T E) → Q → OnErr r Q
 on_err (Ok x) q = tt
 on_err (Err e) q = q
+
+pub on_ok : {T E P Q : Type 0} (r : Result T E) → (P → Q) → OnOk r P → OnOk r Q
+on_ok (Ok x) weaker p = weaker p
+on_ok (Err e) weaker p = tt
 
 -- the next cell has a column
 pub next_inside : (xs : List Column) (rows begun : ℕ) (tys : List ColumnType) (unfinished : List Datum) (cell : Datum) → begun ≤ length xs → map type_of xs ≡ tys →

@@ -1,16 +1,12 @@
 // A chunk of rows.
-ghost use Rattle.std.specs.Prelude.{◌≡◌, ◌≤◌, ◌<◌, ◌+◌, ◌-◌, ◌++◌, ◌∷◌, ◌^◌, [], is_some, length, slice_get, slice_range, take, IfOk, IfSome, IsTrue, None, OnErr, OnOk, Some};
+ghost use Rattle.std.specs.Prelude.{◌≡◌, ◌≤◌, ◌<◌, ◌+◌, ◌-◌, ◌++◌, ◌∷◌, ◌^◌, [], is_some, length, slice_range, take, IfOk, OnErr, OnOk, Some};
 ghost use Rattle.std.specs.Option.{option_to_list};
-ghost use Rattle.value_types.specs.Datum.{datum_of, typed};
-ghost use Rattle.value_types.specs.declared.types.ColumnType.{ColumnType};
-ghost use Rattle.value_types.specs.declared.types.ColumnType.TheVariants.{Bigint};
-ghost use Rattle.value_types.specs.declared.types.Value.TheVariants.{Int};
-ghost use Rattle.value_types.specs.OfType.{fit_all};
-ghost use Rattle.value_types.specs.Plain.{IsPlainAt};
+ghost use Rattle.value_types.specs.Datum.{datum_of};
 ghost use Rattle.column_store.specs.NextCell.{spelled_cell};
-ghost use Rattle.column_store.specs.RowsOfColumns.{FitsColumn, HasNoTexts};
+ghost use Rattle.column_store.specs.RowsOfColumns.{FitsColumn};
 ghost use Rattle.column_store.specs.TableView.{cell_of};
 
+mod fronts;
 mod measuring;
 mod views;
 mod whole_rows;
@@ -20,7 +16,7 @@ use crate::columns;
 use csv_source::NoMemory;
 use std::alloc::Global;
 use std::marker::Model;
-use value_types::{Cell, Cells, Types};
+use value_types::{Cell, Types};
 
 /// Rows in columns of their own. A row is appended cell by cell and then finished, or taken back.
 #[derive(Drop)]
@@ -108,19 +104,6 @@ impl Chunk {
         Ok(())
     }
 
-    /// Appends a number to the row under way, whose next column is BIGINT.
-    #[inline(always)]
-    pub fn push_bigint(&mut self, number: i64) -> Result<(), NoMemory>
-        requires next { slice_get self.old.types (length self.old.unfinished) ≡ Some Bigint }
-        ensures ok { OnOk result (self.new ≡ record self.old { unfinished = self.old.unfinished ++ typed (Int number) ∷ [] }) }
-        ensures err { OnErr result (self.new ≡ self.old) }
-    {
-        let roomy = self.spare > 0;
-        self.columns[self.begun].push_bigint(number, roomy)?;
-        self.begun += 1;
-        Ok(())
-    }
-
     /// Appends the cell that the text between two places spells as the type of the next column to the row under way,
     /// and answers whether it spells one. Where it spells none, nothing is appended.
     #[inline(always)]
@@ -137,27 +120,6 @@ impl Chunk {
             return Ok(true);
         }
         Ok(false)
-    }
-
-    /// Appends the value of the next column's type whose plain form begins at a place to the row under way, and answers where
-    /// it ends. None, and nothing is appended, where `push_spelled` has to be asked.
-    #[inline(always)]
-    pub fn push_front(&mut self, bytes: &[u8], from: usize) -> Result<Option<usize>, NoMemory>
-        requires next { length self.old.unfinished < length self.old.types }
-        requires within { from ≤ length bytes.now }
-        ensures at { IfOk result (λ found. IfSome found (λ end. (ty : ColumnType) → slice_get self.old.types (length self.old.unfinished) ≡ Some ty → IsPlainAt ty bytes.now from end)) }
-        ensures ok { IfOk result (λ found. IfSome found (λ end. self.new ≡ record self.old { unfinished = self.old.unfinished ++ option_to_list (spelled_cell self.old (slice_range bytes.now from end)) })) }
-        ensures none { IfOk result (λ found. found ≡ None → self.new ≡ self.old) }
-        ensures err { OnErr result (self.new ≡ self.old) }
-    {
-        let roomy = self.spare > 0;
-        match self.columns[self.begun].push_front(bytes, from, roomy)? {
-            Some(end) => {
-                self.begun += 1;
-                Ok(Some(end))
-            }
-            None => Ok(None),
-        }
     }
 
     /// Keeps the first rows alone, and nothing of the row under way. Rows that go are spare again.

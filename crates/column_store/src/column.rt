@@ -1,12 +1,12 @@
 // A column of one type.
-ghost use Rattle.std.specs.Prelude.{◌≡◌, ◌≢◌, ◌≤◌, ◌<◌, ◌+◌, ◌++◌, ◌∷◌, [], true, is_some, length, slice_get, slice_range, take, IfOk, IfSome, IsTrue, None, Some, OnErr, OnOk};
+ghost use Rattle.std.specs.Prelude.{◌≡◌, ◌≢◌, ◌≤◌, ◌<◌, ◌+◌, ◌++◌, ◌∷◌, [], true, is_some, length, slice_get, slice_range, take, IfOk, IsTrue, Some, OnErr, OnOk};
 ghost use Rattle.std.specs.Option.{option_to_list};
-ghost use Rattle.value_types.specs.declared.types.ColumnType.TheVariants.{Bigint as bigint, Varchar as varchar};
-ghost use Rattle.value_types.specs.declared.types.Value.TheVariants.{Int};
-ghost use Rattle.value_types.specs.Datum.{datum_of, typed};
+ghost use Rattle.value_types.specs.declared.types.ColumnType.TheVariants.{Varchar as varchar};
+ghost use Rattle.value_types.specs.Datum.{datum_of};
 ghost use Rattle.value_types.specs.OfType.{fits, typed_cell};
-ghost use Rattle.value_types.specs.Plain.{IsPlainAt};
 ghost use Rattle.column_store.specs.ColumnCells.{cells_of, room_of, type_of};
+
+mod fronts;
 
 use crate::bigints::Bigints;
 use crate::nullable::Nullable;
@@ -15,8 +15,7 @@ use crate::unwrapping::{boolean_in, date_in, number_in, stamp_in, text_in, time_
 use csv_source::NoMemory;
 use std::alloc::Global;
 use value_types::{
-    Cell, ColumnType, Value, bigint_front, boolean_front, cast_bigint_in, cast_boolean, cast_date,
-    cast_time, cast_timestamp, date_front, stamp_front, time_front,
+    Cell, ColumnType, Value, cast_bigint_in, cast_boolean, cast_date, cast_time, cast_timestamp,
 };
 
 /// A column: its values in vectors of their type's width.
@@ -99,22 +98,6 @@ impl Column {
         }
     }
 
-    /// Appends a number to a BIGINT column. `roomy` says that there is room for it.
-    #[inline(always)]
-    pub(crate) fn push_bigint(&mut self, number: i64, roomy: bool) -> Result<(), NoMemory>
-        requires room { roomy ≡ true → length (cells_of self.old) < room_of self.old }
-        requires ty { type_of self.old ≡ bigint }
-        ensures ty { type_of self.new ≡ type_of self.old }
-        ensures ok { OnOk result (cells_of self.new ≡ cells_of self.old ++ typed (Int number) ∷ []) }
-        ensures err { OnErr result (cells_of self.new ≡ cells_of self.old) }
-        ensures room { room_of self.old ≤ room_of self.new }
-    {
-        match self {
-            Column::Bigint(column) => column.push_number(number, roomy),
-            _ => unreachable!(),
-        }
-    }
-
     /// Appends the cell that the text between two places spells as the type, and answers whether it spells one. `roomy`
     /// says that there is room for a cell more. A value is cast and pushed in one match: no cell is made on the way, and
     /// no type is looked up again.
@@ -145,64 +128,6 @@ impl Column {
                 column.push_text(text)?;
                 Ok(true)
             }
-        }
-    }
-
-    /// Appends the value of the type whose plain form begins at a place, and answers where it ends. None, and nothing is
-    /// appended, where `push_spelled` has to be asked. `roomy` says that there is room for a cell more.
-    #[inline(always)]
-    pub(crate) fn push_front(
-        &mut self,
-        bytes: &[u8],
-        from: usize,
-        roomy: bool,
-    ) -> Result<Option<usize>, NoMemory>
-        requires room { roomy ≡ true → length (cells_of self.old) < room_of self.old }
-        requires within { from ≤ length bytes.now }
-        ensures ty { type_of self.new ≡ type_of self.old }
-        ensures at { IfOk result (λ found. IfSome found (IsPlainAt (type_of self.old) bytes.now from)) }
-        ensures ok { IfOk result (λ found. IfSome found (λ end. cells_of self.new ≡ cells_of self.old ++ option_to_list (typed_cell (slice_range bytes.now from end) (type_of self.old)))) }
-        ensures none { IfOk result (λ found. found ≡ None → cells_of self.new ≡ cells_of self.old) }
-        ensures err { OnErr result (cells_of self.new ≡ cells_of self.old) }
-        ensures room { room_of self.old ≤ room_of self.new }
-    {
-        match self {
-            Column::Boolean(column) => match boolean_front(bytes, from) {
-                Some(front) => {
-                    column.push_some(Some(front.truth), roomy)?;
-                    Ok(Some(front.end))
-                }
-                None => Ok(None),
-            },
-            Column::Bigint(column) => match bigint_front(bytes, from) {
-                Some(front) => {
-                    column.push_number(front.number, roomy)?;
-                    Ok(Some(front.end))
-                }
-                None => Ok(None),
-            },
-            Column::Date(column) => match date_front(bytes, from) {
-                Some(front) => {
-                    column.push_some(Some(front.day), roomy)?;
-                    Ok(Some(front.end))
-                }
-                None => Ok(None),
-            },
-            Column::Time(column) => match time_front(bytes, from) {
-                Some(front) => {
-                    column.push_some(Some(front.micros), roomy)?;
-                    Ok(Some(front.end))
-                }
-                None => Ok(None),
-            },
-            Column::Timestamp(column) => match stamp_front(bytes, from) {
-                Some(front) => {
-                    column.push_some(Some(front.micros), roomy)?;
-                    Ok(Some(front.end))
-                }
-                None => Ok(None),
-            },
-            Column::Varchar(_) => Ok(None),
         }
     }
 

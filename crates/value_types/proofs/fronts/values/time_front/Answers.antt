@@ -2,7 +2,7 @@ use Rattle.std.proofs.Common.{Some, sym, ap, ◌∙◌, rules, w64}
 use Rattle.std.specs.Prelude.{slice_range}
 use Rattle.std.proofs.lemmas.Int.{to_z-of_z}
 use Rattle.value_types.proofs.PlainTexts.{cast_clock}
-use Rattle.value_types.proofs.front_values.time_front.Goals as goal
+use Rattle.value_types.proofs.fronts.values.time_front.Goals as goal
 
 pub returns-clause-value : goal.returns-clause-value
 returns-clause-value c =

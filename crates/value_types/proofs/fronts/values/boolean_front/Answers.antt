@@ -1,6 +1,6 @@
 use Rattle.std.specs.Prelude.{slice_range}
 use Rattle.value_types.proofs.PlainTexts.{cast_letters}
-use Rattle.value_types.proofs.front_values.boolean_front.Goals as goal
+use Rattle.value_types.proofs.fronts.values.boolean_front.Goals as goal
 
 pub returns-clause-value : goal.returns-clause-value
 returns-clause-value c =

@@ -2,7 +2,7 @@ use Rattle.std.proofs.Common.{◌+◌, Some, sym, ap, ◌∙◌}
 use Rattle.std.specs.Prelude.{slice_range}
 use Rattle.value_types.proofs.CastSteps.{day_bits}
 use Rattle.value_types.proofs.PlainTexts.{cast_numerals}
-use Rattle.value_types.proofs.front_values.date_front.Goals as goal
+use Rattle.value_types.proofs.fronts.values.date_front.Goals as goal
 
 pub returns-clause-value : goal.returns-clause-value
 returns-clause-value c =

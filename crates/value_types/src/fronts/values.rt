@@ -6,10 +6,10 @@ ghost use Rattle.value_types.specs.Cast.{boolean_of, date_of, stamp_of, time_of,
 ghost use Rattle.value_types.specs.Digits.{is_numeral};
 ghost use Rattle.value_types.specs.Plain.{is_clock_byte, is_plain, is_stamp_byte};
 
+use super::number::is_numeral;
 use crate::ColumnType;
 use crate::casting::boolean;
 use crate::dates::date;
-use crate::front_number::is_numeral;
 use crate::times::{stamp, time};
 use crate::words::{digit_count, word_at};
 

@@ -3,7 +3,7 @@ use Rattle.std.specs.Prelude.{slice_range}
 use Rattle.std.proofs.lemmas.Int.{to_z-of_z}
 use Rattle.value_types.proofs.PlainTexts.{cast_stamp}
 use Rattle.value_types.proofs.SlicesInBytes.{length-slice}
-use Rattle.value_types.proofs.front_values.stamp_front.Goals as goal
+use Rattle.value_types.proofs.fronts.values.stamp_front.Goals as goal
 
 pub returns-clause-value : goal.returns-clause-value
 returns-clause-value c =
