@@ -1,6 +1,6 @@
 -- The columns of a chunk through its calls.
 use Rattle.std.proofs.Common.{◌≡◌, ◌≢◌, ℕ, zero, suc, ◌+◌, ◌-◌, ◌^◌, ◌<◌, ◌≤◌, refl, sym, ap, ◌∙◌, subst, arith, List, [], ◌∷◌, ◌++◌, length, get_or, set, take, map, inl, inr, Result, Ok, Err, true, false, Option, Some, None, is_some, append-nil}
-use Rattle.std.specs.Prelude.{All, OnErr, option_and_then, slice_get}
+use Rattle.std.specs.Prelude.{All, OnErr, OnOk, option_and_then, slice_get}
 use Rattle.std.specs.Option.{option_to_list}
 use Rattle.std.proofs.lemmas.Bool.{cases_eq, cases_lt, and_parts, false≢true}
 use Rattle.std.proofs.lemmas.List.{length-append, length-map, length-set, length-take, get_or_default, get_or-set_same, get_or-set_other, get_or_push, get_or-map, map-set, map_push, take-take, take_more_set, take-set, take_all, take_at, take_more}
@@ -182,6 +182,10 @@ pub on_err : {T E Q : Type 0} (r : Result T E) → Q → OnErr r Q
 on_err (Ok x) q = tt
 on_err (Err e) q = q
 
+pub on_ok : {T E P Q : Type 0} (r : Result T E) → (P → Q) → OnOk r P → OnOk r Q
+on_ok (Ok x) weaker p = weaker p
+on_ok (Err e) weaker p = tt
+
 -- the next cell has a column
 pub next_inside : (xs : List Column) (rows begun : ℕ) (tys : List ColumnType) (unfinished : List Datum) (cell : Datum) → begun ≤ length xs → map type_of xs ≡ tys →
     row_at (take begun (map cells_of xs)) rows ≡ unfinished → FitsColumn tys (length unfinished) cell → begun < length xs
@@ -200,11 +204,14 @@ module _ (xs : List Column) (rows begun : ℕ) (tys : List ColumnType) (unfinish
   pub column_inside : begun < length xs
   column_inside = omega (arith, begun_is, length-map xs type_of, ap length types, next)
 
+  pub next_type : (was : Column) → was ≡ get_or xs begun was → slice_get tys (length unfinished) ≡ Some (type_of was)
+  next_type was is =
+      (λ i. slice_get (sym types i) (begun_is i))
+      ∙ slice_get-get_or (map type_of xs) begun (type_of was) (omega (arith, column_inside, length-map xs type_of))
+      ∙ ap Some (get_or-map type_of xs begun was (type_of was) column_inside ∙ ap type_of (sym is))
+
   pub spelled_as : (text : List ℕ) (was : Column) → was ≡ get_or xs begun was → option_and_then (typed_cell text) (slice_get tys (length unfinished)) ≡ typed_cell text (type_of was)
-  spelled_as text was is =
-      (λ i. option_and_then (typed_cell text) (slice_get (sym types i) (begun_is i)))
-      ∙ ap (option_and_then (typed_cell text)) (slice_get-get_or (map type_of xs) begun (type_of was) (omega (arith, column_inside, length-map xs type_of))
-      ∙ ap Some (get_or-map type_of xs begun was (type_of was) column_inside ∙ ap type_of (sym is)))
+  spelled_as text was is = ap (option_and_then (typed_cell text)) (next_type was is)
 
 -- a cell that is there, and one that isn't
 pub one_more : (o : Option Datum) → true ≡ is_some o → (cell : Datum) × (option_to_list o ≡ cell ∷ [])

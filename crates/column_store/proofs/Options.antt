@@ -2,6 +2,8 @@
 use Rattle.std.proofs.Common.{◌≡◌, ℕ, zero, suc, ◌<◌, ◌≤◌, refl, sym, ap, ◌∙◌, arith, Bool, true, false, List, [], ◌∷◌, ◌++◌, length, get_or, take, Some, None}
 use Rattle.std.specs.Prelude.{if◌then◌else◌, slice_get}
 use Rattle.std.proofs.lemmas.List.{append-nil}
+use Rattle.std.specs.Option.{option_map}
+use Rattle.value_types.specs.Texts.{on_last}
 use Rattle.column_store.specs.Nullable.{options_of}
 
 module _ {A : Type 0} where
@@ -66,3 +68,16 @@ module _ {A : Type 0} where
   options-take (suc count) nulls [] = refl
   options-take (suc count) [] (v ∷ values) = ap (λ os. Some v ∷ os) (unmarked-take count values)
   options-take (suc count) (n ∷ nulls) (v ∷ values) = ap (λ os. (if n then None else Some v) ∷ os) (options-take count nulls values)
+
+  -- the last value is changed, unless it is null
+  changed_or_null : (change : A → A) (is_null : Bool) (v : A) → (if is_null then None else Some (change v)) ≡ option_map change (if is_null then None else Some v)
+  changed_or_null change true v = refl
+  changed_or_null change false v = refl
+
+  pub options-last : (change : A → A) (nulls : List Bool) (values : List A) → options_of nulls (on_last change values) ≡ on_last (option_map change) (options_of nulls values)
+  options-last change nulls [] = refl
+  options-last change [] (v ∷ []) = refl
+  options-last change [] (v ∷ w ∷ values) = ap (λ os. Some v ∷ os) (options-last change [] (w ∷ values))
+  options-last change (n ∷ nulls) (v ∷ []) = ap (λ o. o ∷ []) (changed_or_null change n v)
+  options-last change (n ∷ []) (v ∷ w ∷ values) = ap (λ os. (if n then None else Some v) ∷ os) (options-last change [] (w ∷ values))
+  options-last change (n ∷ m ∷ nulls) (v ∷ w ∷ values) = ap (λ os. (if n then None else Some v) ∷ os) (options-last change (m ∷ nulls) (w ∷ values))

@@ -5,6 +5,7 @@ pub mod ColumnCells
 pub mod RowsOfColumns
 pub mod ChunkView
 pub mod NextCell
+pub mod LongerText
 pub mod ColumnChanges
 pub mod IsFilled
 pub mod Stacked

@@ -1,14 +1,12 @@
 // A chunk of rows.
-ghost use Rattle.std.specs.Prelude.{◌≡◌, ◌≤◌, ◌<◌, ◌+◌, ◌-◌, ◌++◌, ◌∷◌, ◌^◌, [], is_some, length, slice_get, slice_range, take, IfOk, IsTrue, OnErr, OnOk, Some};
+ghost use Rattle.std.specs.Prelude.{◌≡◌, ◌≤◌, ◌<◌, ◌+◌, ◌-◌, ◌++◌, ◌∷◌, ◌^◌, [], is_some, length, slice_range, take, IfOk, OnErr, OnOk, Some};
 ghost use Rattle.std.specs.Option.{option_to_list};
-ghost use Rattle.value_types.specs.Datum.{datum_of, typed};
-ghost use Rattle.value_types.specs.declared.types.ColumnType.TheVariants.{Bigint};
-ghost use Rattle.value_types.specs.declared.types.Value.TheVariants.{Int};
-ghost use Rattle.value_types.specs.OfType.{fit_all};
+ghost use Rattle.value_types.specs.Datum.{datum_of};
 ghost use Rattle.column_store.specs.NextCell.{spelled_cell};
-ghost use Rattle.column_store.specs.RowsOfColumns.{FitsColumn, HasNoTexts};
+ghost use Rattle.column_store.specs.RowsOfColumns.{FitsColumn};
 ghost use Rattle.column_store.specs.TableView.{cell_of};
 
+mod fronts;
 mod measuring;
 mod views;
 mod whole_rows;
@@ -18,7 +16,7 @@ use crate::columns;
 use csv_source::NoMemory;
 use std::alloc::Global;
 use std::marker::Model;
-use value_types::{Cell, Cells, Types};
+use value_types::{Cell, Types};
 
 /// Rows in columns of their own. A row is appended cell by cell and then finished, or taken back.
 #[derive(Drop)]
@@ -102,19 +100,6 @@ impl Chunk {
         ensures err { OnErr result (self.new ≡ self.old) }
     {
         self.columns[self.begun].push(cell)?;
-        self.begun += 1;
-        Ok(())
-    }
-
-    /// Appends a number to the row under way, whose next column is BIGINT.
-    #[inline(always)]
-    pub fn push_bigint(&mut self, number: i64) -> Result<(), NoMemory>
-        requires next { slice_get self.old.types (length self.old.unfinished) ≡ Some Bigint }
-        ensures ok { OnOk result (self.new ≡ record self.old { unfinished = self.old.unfinished ++ typed (Int number) ∷ [] }) }
-        ensures err { OnErr result (self.new ≡ self.old) }
-    {
-        let roomy = self.spare > 0;
-        self.columns[self.begun].push_bigint(number, roomy)?;
         self.begun += 1;
         Ok(())
     }

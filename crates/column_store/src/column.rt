@@ -1,11 +1,12 @@
 // A column of one type.
 ghost use Rattle.std.specs.Prelude.{◌≡◌, ◌≢◌, ◌≤◌, ◌<◌, ◌+◌, ◌++◌, ◌∷◌, [], true, is_some, length, slice_get, slice_range, take, IfOk, IsTrue, Some, OnErr, OnOk};
 ghost use Rattle.std.specs.Option.{option_to_list};
-ghost use Rattle.value_types.specs.declared.types.ColumnType.TheVariants.{Bigint as bigint, Varchar as varchar};
-ghost use Rattle.value_types.specs.declared.types.Value.TheVariants.{Int};
-ghost use Rattle.value_types.specs.Datum.{datum_of, typed};
+ghost use Rattle.value_types.specs.declared.types.ColumnType.TheVariants.{Varchar as varchar};
+ghost use Rattle.value_types.specs.Datum.{datum_of};
 ghost use Rattle.value_types.specs.OfType.{fits, typed_cell};
 ghost use Rattle.column_store.specs.ColumnCells.{cells_of, room_of, type_of};
+
+mod fronts;
 
 use crate::bigints::Bigints;
 use crate::nullable::Nullable;
@@ -94,22 +95,6 @@ impl Column {
             Column::Time(column) => column.push(time_in(cell)),
             Column::Timestamp(column) => column.push(stamp_in(cell)),
             Column::Varchar(column) => column.push(text_in(cell)),
-        }
-    }
-
-    /// Appends a number to a BIGINT column. `roomy` says that there is room for it.
-    #[inline(always)]
-    pub(crate) fn push_bigint(&mut self, number: i64, roomy: bool) -> Result<(), NoMemory>
-        requires room { roomy ≡ true → length (cells_of self.old) < room_of self.old }
-        requires ty { type_of self.old ≡ bigint }
-        ensures ty { type_of self.new ≡ type_of self.old }
-        ensures ok { OnOk result (cells_of self.new ≡ cells_of self.old ++ typed (Int number) ∷ []) }
-        ensures err { OnErr result (cells_of self.new ≡ cells_of self.old) }
-        ensures room { room_of self.old ≤ room_of self.new }
-    {
-        match self {
-            Column::Bigint(column) => column.push_number(number, roomy),
-            _ => unreachable!(),
         }
     }
 

@@ -1,6 +1,7 @@
 // Texts that may be null.
 ghost use Rattle.std.specs.Prelude.{◌≡◌, ◌≤◌, ◌<◌, ◌+◌, ◌++◌, ◌∷◌, [], length, slice_get, take, vec_capacity, Some, OnErr, OnOk};
-ghost use Rattle.std.specs.Option.{option_copied};
+ghost use Rattle.std.specs.Option.{option_copied, option_map};
+ghost use Rattle.value_types.specs.Texts.{on_last};
 
 use csv_source::NoMemory;
 use std::alloc::Global;
@@ -122,6 +123,17 @@ impl NullableTexts {
         self.reserve_marks(1)?;
         self.texts.push(text)?;
         Ok(())
+    }
+
+    /// Appends bytes to the last text; null stays null.
+    #[inline(always)]
+    pub(crate) fn extend_last(&mut self, more: &[u8]) -> Result<(), NoMemory>
+        requires some { 0 < length (texts_or_null self.old) }
+        ensures ok { OnOk result (texts_or_null self.new ≡ on_last (option_map (λ text. text ++ more.now)) (texts_or_null self.old)) }
+        ensures err { OnErr result (texts_or_null self.new ≡ texts_or_null self.old) }
+        ensures room { vec_capacity self.old.nulls ≤ vec_capacity self.new.nulls }
+    {
+        self.texts.extend_last(more)
     }
 
     pub(crate) fn append(&mut self, other: &NullableTexts) -> Result<(), NoMemory>

@@ -29,7 +29,7 @@ use Rattle.value_types.specs.declared.types.Value.TheVariants.{Int}
 use Rattle.value_types.specs.Cast.{bigint_of, trimmed}
 use Rattle.value_types.specs.Datum.{Datum, null, typed}
 use Rattle.value_types.specs.Digits.{is_numeral}
-use Rattle.value_types.specs.declared.front_number.FrontNumber.{FrontNumber}
+use Rattle.value_types.specs.declared.fronts.number.FrontNumber.{FrontNumber}
 use Rattle.reject_book.specs.declared.reject.RowPlace.{RowPlace}
 use Rattle.reject_book.specs.declared.reject.Schema.{Schema}
 use Rattle.reject_book.specs.Casting.{bad_values, cell_at, times_bad}

@@ -27,7 +27,7 @@ use Rattle.row_fields.proofs.Leading.{LeadsBare, leads_bare, line_end_class}
 use Rattle.row_fields.proofs.FrontReading.{IsLast, is_row_len, is_split}
 use Rattle.row_fields.proofs.RowSteps.{row_at-start, begins-row_at, raw_fields-start, row_at-ended, raw_fields-last, other_ends_row}
 use Rattle.value_types.specs.Digits.{is_numeral}
-use Rattle.value_types.specs.declared.front_number.FrontNumber.{FrontNumber}
+use Rattle.value_types.specs.declared.fronts.number.FrontNumber.{FrontNumber}
 use Rattle.range_scan.specs.declared.context.Context.{Context}
 use Rattle.range_scan.specs.NumberRows.{HoldsNumbers, IsNumberAt}
 

@@ -9,7 +9,7 @@ use Rattle.value_types.specs.declared.types.ColumnType.TheVariants.{Bigint}
 use Rattle.value_types.specs.Cast.{bigint_of, trimmed}
 use Rattle.value_types.specs.Datum.{Datum}
 use Rattle.value_types.specs.Digits.{is_numeral}
-use Rattle.value_types.specs.declared.front_number.FrontNumber.{FrontNumber}
+use Rattle.value_types.specs.declared.fronts.number.FrontNumber.{FrontNumber}
 use Rattle.column_store.specs.ChunkView.{ChunkView}
 use Rattle.reject_book.specs.declared.reject.Schema.{Schema}
 use Rattle.reject_book.specs.Casting.{cell_at}

@@ -8,6 +8,7 @@ mod lists;
 mod next_cells;
 mod numbers;
 mod pieces;
+mod plain_fronts;
 mod report;
 mod sources;
 mod store;

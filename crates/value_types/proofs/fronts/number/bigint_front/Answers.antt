@@ -6,7 +6,7 @@ use Rattle.value_types.specs.Cast.{bigint_of, trimmed}
 use Rattle.value_types.specs.Digits.{is_numeral}
 use Rattle.value_types.proofs.IntTexts.{bigint_of-natural, bigint_of-minus_natural, numerals-natural}
 use Rattle.value_types.proofs.SlicesInBytes.{slice_first}
-use Rattle.value_types.proofs.front_number.bigint_front.Goals as goal
+use Rattle.value_types.proofs.fronts.number.bigint_front.Goals as goal
 
 pub returns-then-bytes-from-eq45-clause-value : goal.returns-then-bytes-from-eq45-clause-value
 returns-then-bytes-from-eq45-clause-value c =

@@ -58,9 +58,9 @@ fn digits_front(bytes: &[u8], from: usize) -> Option<FrontDigits>
     Some(FrontDigits { number, end })
 }
 
-/// The number that the bytes from a place on spell, with the digits up to the first byte that is none, and a minus before
-/// them if one is there. None where `cast_bigint_in` has to be asked: at a space or a plus, of more than fifteen digits,
-/// and near the bytes' end. A caller finds the end of a field and its number by one look.
+/// The number that digits from a place on spell, behind a minus if one is there, as many digits as stand there. None where
+/// `cast_bigint_in` has to be asked: at a space or a plus, of more than fifteen digits, and near the bytes' end. No clause
+/// speaks of the byte behind the digits: who looks for a field's end compares it with the delimiter, which is no digit.
 #[inline(always)]
 pub fn bigint_front(bytes: &[u8], from: usize) -> Option<FrontNumber>
     requires within { from ≤ length bytes.now }

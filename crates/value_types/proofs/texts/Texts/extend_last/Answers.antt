@@ -1,0 +1,21 @@
+use Rattle.std.proofs.Common.{◌≡◌, ◌∙◌, ◌+◌, ◌-◌, ◌++◌, ◌∷◌, [], List, ℕ, ap, arith, length}
+use Rattle.value_types.specs.Texts.{on_last}
+use Rattle.value_types.proofs.TextsInBuffer.{extended_rising, extended_texts, length-texts}
+use Rattle.value_types.proofs.texts.Texts.extend_last.Goals as goal
+
+pub invariant_of-self-2 : goal.invariant_of-self-2
+invariant_of-self-2 c =
+    let ends : List ℕ = c.self.inside.ends.items in
+    let bytes : List ℕ = c.self.inside.bytes.items in
+    let count : length ends ≡ (c.len-last.result - 1) + 1 = omega (arith, length-texts 0 ends bytes, ap length c.self.view_is, c.requires.some, c.len-last.ensures) in
+    extended_rising ends bytes c.self.invariant (c.len-last.result - 1) count c.args.more.now c.push_reserved.new.self.items c.extend_from_slice.new.self.items c.len.result
+    c.in_ok-extend_from_slice.ensures.items (c.push_reserved.ensures.items ∙ ap (λ es. es ++ c.len.result ∷ []) c.truncate.ensures.items) (omega arith)
+
+pub returns-clause-ok : goal.returns-clause-ok
+returns-clause-ok c =
+    let ends : List ℕ = c.self.inside.ends.items in
+    let bytes : List ℕ = c.self.inside.bytes.items in
+    let count : length ends ≡ (c.len-last.result - 1) + 1 = omega (arith, length-texts 0 ends bytes, ap length c.self.view_is, c.requires.some, c.len-last.ensures) in
+    extended_texts ends bytes c.self.invariant (c.len-last.result - 1) count c.args.more.now c.push_reserved.new.self.items c.extend_from_slice.new.self.items c.len.result
+    c.in_ok-extend_from_slice.ensures.items (c.push_reserved.ensures.items ∙ ap (λ es. es ++ c.len.result ∷ []) c.truncate.ensures.items) (omega arith)
+    ∙ ap (on_last (λ text. text ++ c.args.more.now)) c.self.view_is
