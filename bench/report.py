@@ -2,6 +2,7 @@
 import hashlib
 import os
 import re
+import shutil
 import subprocess
 import time
 
@@ -55,7 +56,7 @@ def checkout():
 
 
 def program(path):
-    with open(path, "rb") as file:
+    with open(shutil.which(path), "rb") as file:
         return "%s, SHA-256 %s" % (told([path, "version"]), hashlib.sha256(file.read()).hexdigest()[:16])
 
 
@@ -100,7 +101,7 @@ class Report:
             yield "spread", "%.0f to %.0f %% of a tool's median wall time" % (min(self.spreads) * 100, max(self.spreads) * 100)
 
     def write(self, folder, name, programs):
-        """Writes FOLDER/DATE-NAME.md, with a number behind a name that is taken, and gives its path."""
+        """Write FOLDER/DATE-NAME.md, with a number behind a name that is taken, and return its path."""
         os.makedirs(folder, exist_ok=True)
         start = os.path.join(folder, time.strftime("%Y-%m-%d-", self.begun) + name)
         path, number = start + ".md", 2
