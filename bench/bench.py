@@ -4,6 +4,7 @@
     bench.py [--csvload PATH] [--shape made] [--mb 40] [--reps 5] [--only WORD,..] [--threads 4]
     bench.py --scaling [--sizes 4,40,400] [--scale-threads 1,2,4]      tools that have threads alone
 
+What is printed stands, with machine and versions, in results/DATE-NAME.md (--results, --name).
 Words cut at commas are lists: shapes, sizes in MB, threads, parts of tools' names.
 Inputs are made by make_data.py in --work and kept there. Every repetition runs all
 tools once, in an order turned by one each time. MB/s is the file's size by the shortest
@@ -11,7 +12,7 @@ wall time (others on the machine only add to it) without the tool's start: libra
 and Python time their second call themselves, and from others, as from memory per input
 byte, a run on a file of 100 rows is taken off. MB/CPU s is the size by the least CPU time
 less the start's: on a busy machine the better measure of one thread. The rest is whole.
-Kinds: `typed` detects types and fills columns, `given` is told the types, `scan` only
+Kinds: `typed` detects types and fills columns, `given` is given them, `scan` only
 finds the records, `print` writes them out again, `limit` is the hardware's side.
 The ratio is MB/s over that of the best peer of kind typed or given; csvload and limits
 aren't peers. Peers that aren't installed are left out. Wants /usr/bin/time, and:
@@ -34,6 +35,7 @@ import time
 
 sys.dont_write_bytecode = True
 import make_data
+import report as reports
 
 HERE = os.path.dirname(os.path.abspath(__file__))
 PG = max(glob.glob("/usr/lib/postgresql/*/bin/"), default="")
@@ -169,7 +171,8 @@ def tools(file, start, shape, threads, args):
             if os.path.exists("/usr/lib/R/site-library/" + package):
                 add(name, "typed", ["Rscript", "-e", in_r % (call % n)], r"rows=(\d+)", n)
     python = "/usr/bin/python3"     # Debian's, which has pandas
-    add("pandas C", "typed", [python, "-c", in_python % ("pandas.read_csv(p,parse_dates=%r%s)" % (dated, ",on_bad_lines='skip'" * faulty))], r"rows=(\d+)")
+    if os.path.exists("/usr/lib/python3/dist-packages/pandas"):
+        add("pandas C", "typed", [python, "-c", in_python % ("pandas.read_csv(p,parse_dates=%r%s)" % (dated, ",on_bad_lines='skip'" * faulty))], r"rows=(\d+)")
     add("python csv", "scan", [python, "-c", "import csv;print(sum(1 for _ in csv.reader(open('%s',newline='')))-1)" % file])
     makers = dict(int="int", bool="'true'.__eq__", date="datetime.date.fromisoformat", time="datetime.time.fromisoformat",
                   stamp="datetime.datetime.fromisoformat", text="str")
@@ -240,35 +243,37 @@ def measure(shape, mb, threads, args):
     return rows, records, size
 
 
-def show(shape, mb, threads, args):
+def show(shape, mb, threads, args, report):
     rows, records, size = measure(shape, mb, threads, args)
     best = max((r[3] for r in rows if r[1] and r[0].kind in ("typed", "given") and r[1].rows in (records, None)), default=1)
-    print("\n### %s, %d bytes, %d records, %d repetitions\n" % (shape, size, records, args.reps))
-    print("| tool | kind | threads | median s | spread | CPU s | MB/CPU s | MB/s | of best peer | peak MB | peak/byte | records |")
-    print("|---|---|--:|--:|--:|--:|--:|--:|--:|--:|--:|---|")
+    report.say("", "### %s, %d bytes, %d records, %d repetitions" % (shape, size, records, args.reps), "",
+               "| tool | kind | threads | median s | spread | CPU s | MB/CPU s | MB/s | of best peer | peak MB | peak/byte | records |",
+               "|---|---|--:|--:|--:|--:|--:|--:|--:|--:|--:|---|")
     for t, m, spread, speed, memory, per_cpu in sorted(rows, key=lambda r: -r[3]):
         if m is None:
-            print("| %s | %s | %d | failed | | | | | | | | |" % (t.name, t.kind, t.threads))
+            report.say("| %s | %s | %d | failed | | | | | | | | |" % (t.name, t.kind, t.threads))
             continue
+        report.ran(t.name, spread)
         told = "not told" if m.rows is None or t.kind == "limit" else "right" if m.rows == records else "%+d" % (m.rows - records)
-        print("| %s | %s | %d | %.2f | %.0f%% | %.2f | %.0f | %.0f | %.2f | %.0f | %.1f | %s |" % (
-            t.name, t.kind, t.threads, m.wall, spread * 100, m.cpu, per_cpu, speed, speed / best, m.peak / 1e6, memory, told), flush=True)
+        report.say("| %s | %s | %d | %.2f | %.0f%% | %.2f | %.0f | %.0f | %.2f | %.0f | %.1f | %s |" % (
+            t.name, t.kind, t.threads, m.wall, spread * 100, m.cpu, per_cpu, speed, speed / best, m.peak / 1e6, memory, told))
 
 
-def scaling(args):
+def scaling(args, report):
     sizes, threads = numbers(args.sizes), numbers(args.scale_threads)
     found = {}
     for mb in sizes:
         rows, records, _ = measure(args.shape, mb, threads, args)
-        for t, m, _, speed, memory, _ in rows:
+        for t, m, spread, speed, memory, _ in rows:
             if any(w in t.name for w in ("csvload", "fread", "vroom", "readr", "rust csv")):
+                if m:
+                    report.ran(t.name, spread)
                 mark = "" if m and m.rows in (records, None) else " wrong"
                 found[t.name, t.threads, mb] = "%.0f (%.1f)%s" % (speed, memory, mark) if m else "failed"
-    print("\n### %s: MB/s (peak bytes per input byte)\n" % args.shape)
-    print("| tool | threads | %s |" % " | ".join("%d MB" % mb for mb in sizes))
-    print("|---|--:|%s" % ("--:|" * len(sizes)))
+    report.say("", "### %s: MB/s (peak bytes per input byte)" % args.shape, "",
+               "| tool | threads | %s |" % " | ".join("%d MB" % mb for mb in sizes), "|---|--:|%s" % ("--:|" * len(sizes)))
     for name, n in sorted({k[:2] for k in found}):
-        print("| %s | %d | %s |" % (name, n, " | ".join(found.get((name, n, mb), "") for mb in sizes)))
+        report.say("| %s | %d | %s |" % (name, n, " | ".join(found.get((name, n, mb), "") for mb in sizes)))
 
 
 def main():
@@ -278,6 +283,8 @@ def main():
     p.add_argument("--reps", type=int, default=5)
     p.add_argument("--only", help="tools whose name has one of these words")
     p.add_argument("--scaling", action="store_true")
+    p.add_argument("--name", help="of the result, by default the shapes")
+    p.add_argument("--results", default=os.path.join(HERE, "results"), help="the folder into which the result is written")
     for name, value in (("shape", "made"), ("mb", "40"), ("threads", "1,4"), ("sizes", "4,40,400"), ("scale-threads", "1,2,4"),
                         ("work", os.path.join(tempfile.gettempdir(), "csvbench")), ("rust", os.path.join(tempfile.gettempdir(), "csvbench/rust/release/rustcsv"))):
         p.add_argument("--" + name, default=value)
@@ -292,12 +299,17 @@ def main():
     args.wanted = lambda name: not args.only or any(w in name for w in args.only.split(","))
     args.postgres = postgres(args.work) if os.path.exists(PG) and os.getuid() == 0 and args.wanted("postgres COPY") else None
     args.clickhouse = ClickHouse(args.work) if shutil.which("clickhouse-server") and args.wanted("clickhouse insert") else None
+    report = reports.Report(sys.argv[1:])
     try:
         if args.scaling:
-            return scaling(args)
-        for shape in args.shape.split(","):
-            for mb in numbers(args.mb):
-                show(shape, mb, numbers(args.threads), args)
+            scaling(args, report)
+        else:
+            for shape in args.shape.split(","):
+                for mb in numbers(args.mb):
+                    show(shape, mb, numbers(args.threads), args, report)
+        name = args.name or "scaling-" * args.scaling + args.shape.replace(",", "-")
+        programs = [(n, p) for n, p in (("csvload", args.csvload), ("before", args.before)) if p]
+        print("\n" + report.write(args.results, name, programs))
     finally:
         if args.clickhouse:
             args.clickhouse.close()

@@ -1,5 +1,5 @@
 #!/usr/bin/env python3
-"""Measures the reading of groups by crews of 1, 2 and 4 workers, by the clock, against a loop over the ranges on one thread.
+"""Measures the reading of groups by crews of 1, 2 and 4 workers, in wall time, against a loop over the ranges on one thread.
 
 crew.py [MB] [SHAPE]..
 """
@@ -27,7 +27,7 @@ def main() -> None:
     shapes = words or ["made", "wide"]
     with tempfile.TemporaryDirectory() as folder:
         program = programs.build("crew", CRATES, pathlib.Path(folder) / "copy")
-        print("milliseconds by the clock, the least of five rounds: loop on one thread; crews of 1, 2, 4; 1 by the loop, 1 by 4")
+        print("milliseconds of wall time, the least of five rounds: loop on one thread; crews of 1, 2, 4; 1 by the loop, 1 by 4")
         for shape in shapes:
             file = pathlib.Path(folder) / shape
             make_data.write(shape, str(file), size=size)

@@ -33,7 +33,7 @@ def feed(data: bytes, into: int, rate: int) -> None:
 
 
 def run(csvload: str, data: bytes, words: list[str], rate: int) -> tuple[float, str]:
-    """Seconds by the clock, and the sum of the text."""
+    """Seconds of wall time, and the sum of the text."""
     command = [csvload, "summary", "-", f"max_input={1 << 32}", "stats=true", *words]
     begun = time.monotonic()
     with subprocess.Popen(command, stdin=subprocess.PIPE, stdout=subprocess.PIPE) as program:
@@ -52,7 +52,7 @@ def main() -> None:
         file = pathlib.Path(folder) / "made"
         make_data.write("made", str(file), size=size * 1_000_000)
         data = file.read_bytes()
-    print("range_size, seconds by the clock: threads=4, pipeline=true threads=3, their ratio")
+    print("range_size, seconds of wall time: threads=4, pipeline=true threads=3, their ratio")
     for range_size in RANGE_SIZES:
         least, sums = dict.fromkeys(WAYS, float("inf")), set()
         for _ in range(reps):

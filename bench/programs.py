@@ -30,7 +30,7 @@ def build(name: str, stands_on: str, copy: pathlib.Path, top: pathlib.Path = TOP
 
 
 def usage(program: pathlib.Path, *words: object) -> tuple[float, int, str]:
-    """The processor time of a run in seconds, its largest resident size in bytes, and what it printed."""
+    """The CPU time of a run in seconds, its largest resident size in bytes, and what it printed."""
     process = subprocess.Popen([program, *map(str, words)], stdout=subprocess.PIPE, text=True)
     printed = process.stdout.read()
     _, status, spent = os.wait4(process.pid, 0)

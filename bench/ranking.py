@@ -16,7 +16,7 @@ def main() -> None:
     make_data = pathlib.Path(__file__).with_name("make_data.py")
     with tempfile.TemporaryDirectory() as folder:
         program = programs.build("ranking", CRATES, pathlib.Path(folder) / "copy")
-        print("milliseconds of processor time; scored over 20,480 rows and over all, rows and fields read, bytes folded")
+        print("milliseconds of CPU time; scored over 20,480 rows and over all, rows and fields read, bytes folded")
         for shape in SHAPES:
             file = pathlib.Path(folder) / shape
             subprocess.run([sys.executable, make_data, shape, file, "--mb", "5"], check=True, capture_output=True)

@@ -19,7 +19,7 @@ PASSES = 10
 
 
 def rates(builds: list[pathlib.Path], file: pathlib.Path, way: str) -> tuple[list[float], str]:
-    """MB by seconds of processor time of each build, less a run of one pass, which takes the reading; what they find."""
+    """MB by seconds of CPU time of each build, less a run of one pass, which takes the reading; what they find."""
     least: dict[tuple[pathlib.Path, int], float] = {}
     found: dict[int, set[str]] = {1: set(), PASSES + 1: set()}
     for _ in range(ROUNDS):
@@ -38,7 +38,7 @@ def main() -> None:
     with tempfile.TemporaryDirectory() as folder:
         tops = [programs.TOP, *map(pathlib.Path, sys.argv[1:])]
         builds = [programs.build("rows", CRATES, pathlib.Path(folder) / f"copy{place}", top) for place, top in enumerate(tops)]
-        print("MB by seconds of processor time, here and in the other checkout, and their ratio; what a pass finds")
+        print("MB by seconds of CPU time, here and in the other checkout, and their ratio; what a pass finds")
         for shape in SHAPES:
             file = pathlib.Path(folder) / shape
             make_data.write(shape, str(file), size=SIZE)

@@ -18,7 +18,7 @@ SHAPES = {"made": "IBDV", "wide": "I" * 50, "text": "IVVV", "dates": "IDTSB", "b
 def main() -> None:
     with tempfile.TemporaryDirectory() as folder:
         program = programs.build("scanning", CRATES, pathlib.Path(folder) / "copy")
-        print("MB/s scanned, and with rows and fields found alone, of processor time; good rows, rejects")
+        print("MB/s scanned, and with rows and fields found alone, of CPU time; good rows, rejects")
         for shape, letters in SHAPES.items():
             file = pathlib.Path(folder) / shape
             make_data.write(shape, str(file), size=SIZE)

@@ -26,7 +26,7 @@ def write_numbers(file: pathlib.Path, columns: int) -> None:
 def main() -> None:
     with tempfile.TemporaryDirectory() as folder:
         program = programs.build("sniffing", CRATES, pathlib.Path(folder) / "copy")
-        print("milliseconds of processor time to sniff, and to scan; columns; rows of the sample")
+        print("milliseconds of CPU time to sniff, and to scan; columns; rows of the sample")
         for name in ("numbers 1000", "numbers 50", "made", "text", "dates"):
             file = pathlib.Path(folder) / name
             shape, _, columns = name.partition(" ")
