@@ -6,7 +6,8 @@ use Rattle.csv_source.specs.Moves.{MovesFront}
 use Rattle.load_options.specs.declared.options.Options.{Options}
 use Rattle.csv_sniffer.specs.declared.finding.Finding.{Finding}
 use Rattle.window_load.specs.DataRead.{ComesOver}
-use Rattle.window_load.specs.Window.{WindowView, reach, behind_front}
+use Rattle.window_load.specs.Groups.{group_reach}
+use Rattle.window_load.specs.Window.{WindowView, reach, behind_front, fill_limit}
 use Rattle.csv_loader.specs.Batch.{IsOpened}
 use Rattle.csv_loader.specs.Loading.{IsHead, IsFinding, IsSniffedHead, GoesBehindSample}
 use Rattle.csv_loader.proofs.HeadLaws.{start-more}
@@ -37,8 +38,9 @@ module _ (o : Options) (before after : Option (List ℕ)) (head begun next : Win
   ]
 
   -- it is still a head, and what was found in it is found in all that it holds
-  pub sniffed_on : (f : Finding) → reach next ≤ next.most → IsFinding o head.kept f → IsSniffedHead o before after head (record { finding = f; head = next })
-  sniffed_on f fits h = record {
+  pub sniffed_on : (f : Finding) → reach next ≤ next.most → length next.kept ≤ fill_limit (group_reach o.range_size o.max_line_size) (length begun.kept) → IsFinding o head.kept f →
+      IsSniffedHead o before after head (record { finding = f; head = next })
+  sniffed_on f fits bound h = record {
     head = record {
       begins = based;
       limit = limited ∙ is.limit;
@@ -51,6 +53,7 @@ module _ (o : Options) (before after : Option (List ℕ)) (head begun next : Win
       within = omega (arith, h.within, length-append head.kept moves.0);
     });
     moved = (moves.0, grown, moves.2);
+    within = subst (λ (w : WindowView). length next.kept ≤ fill_limit (group_reach o.range_size o.max_line_size) (length w.kept)) copied bound;
   }
 
   pub goes_over : reach next ≡ next.most + 1 → ComesOver before after head

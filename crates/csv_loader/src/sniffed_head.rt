@@ -6,7 +6,8 @@ ghost use Rattle.csv_source.specs.Moves.{MovesFront};
 ghost use Rattle.load_options.specs.Accepted.{IsAccepted};
 ghost use Rattle.range_scan.specs.Scanned.{HasColumns};
 ghost use Rattle.window_load.specs.DataRead.{ComesOver};
-ghost use Rattle.window_load.specs.Window.{reach, IsFilled};
+ghost use Rattle.window_load.specs.Groups.{group_reach};
+ghost use Rattle.window_load.specs.Window.{reach, fill_limit, IsFilled};
 ghost use Rattle.window_load.specs.declared.stop.LoadStop.TheVariants as stops;
 ghost use Rattle.csv_loader.specs.Loading.{IsHead, IsFinding, IsSniffedHead};
 ghost use Rattle.csv_loader.specs.Reading.{schema_of};
@@ -42,7 +43,8 @@ fn sniff_kept(alloc: Global, options: &Options, head: &InputWindow) -> Result<Fi
     sniff_input(alloc, options, head.bytes())
 }
 
-/// Looks at the sample of a head, and meanwhile reads on, on a thread beside it, for what the first crew will ask for.
+/// Looks at the sample of a head, and meanwhile reads on, on a thread beside it, for what the first crew will ask for, and no
+/// further than a step behind the head where it has more.
 fn sniff_beside<R: Threads + Sync, S: Source + Send>(
     rt: &R,
     alloc: Global,
@@ -58,6 +60,7 @@ fn sniff_beside<R: Threads + Sync, S: Source + Send>(
     ensures filled { IfOk result.1 (λ _. reach next.new ≤ next.new.most) }
     ensures too_large { result.1 ≡ Err stops.TooLarge → reach next.new ≡ next.new.most + 1 }
     ensures moved { MovesFront (S.left source.old) (S.left source.new) next.old.kept next.new.kept }
+    ensures within { length next.new.kept ≤ fill_limit (group_reach options.now.range_size options.now.max_line_size) (length next.old.kept) }
     ensures same { (next.new.base ≡ next.old.base) × (next.new.most ≡ next.old.most) }
     ensures at_end { next.new.ended ≡ true → IsAtEnd (S.left source.new) }
     ensures held { S.held source.new ≡ S.held source.old }
@@ -76,7 +79,7 @@ fn sniff_beside<R: Threads + Sync, S: Source + Send>(
 }
 
 /// Finds what is in the sample of an input whose head was read. With several workers the input is read on meanwhile, into a
-/// copy of the head.
+/// copy of the head, as far as the first crew needs it.
 pub fn sniff_head<R: Threads + Sync, S: Source + Send>(
     rt: &R,
     alloc: Global,

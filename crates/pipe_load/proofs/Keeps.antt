@@ -1,5 +1,5 @@
 -- Each step of the queue keeps its rule.
-use Rattle.std.proofs.Common.{◌≡◌, ℕ, zero, suc, ◌+◌, ◌<◌, ◌≤◌, true, true≢false, eqb, cond, List, [], ◌∷◌, ◌++◌, length, map, drop, set, All, sym, refl, ap, ◌∙◌, subst, ⊎_elim, arith, append_assoc, length-append}
+use Rattle.std.proofs.Common.{◌≡◌, ℕ, zero, suc, ◌+◌, ◌<◌, true, true≢false, eqb, cond, List, [], ◌∷◌, ◌++◌, length, map, drop, set, All, sym, refl, ap, ◌∙◌, subst, ⊎_elim, arith, append_assoc, length-append}
 use Rattle.std.proofs.lemmas.List.{map-append, append-nil}
 use Rattle.std.proofs.lemmas.List.Elements.{All-append, All-nil}
 use Rattle.std.proofs.lemmas.List.Sums.{sum_by-cons, sum_by-append}
@@ -40,9 +40,9 @@ begins = (
   record {
     numbered = λ k w e. absurd (some-ne-none w (sym e));
     few = omega arith;
-    few_marks = omega arith;
     holds = refl;
     once = λ k. grind (arith, nat_tests);
+    counted = grind arith;
     each = first;
   },
 )
@@ -61,7 +61,7 @@ window_put n id v x may number none items views _ (put, taken, marks_left, marks
     let put_is : v.put ≡ put = is.1 in
     let same_length : length v.put ≡ length put = ap length put_is in
     let puts_is : v.puts ≡ length put + marks = is.2 in
-    let no_marks : marks_left ≡ 0 = omega (arith, r.few_marks, none, puts_is, same_length) in
+    let no_marks : marks_left ≡ 0 = omega (arith, r.counted, none, puts_is, same_length) in
     let more : List Window = put ++ x ∷ [] in
     let longer : length more ≡ length put + 1 = length-append put (x ∷ []) in
     let number_is : x.number ≡ length put = number ∙ same_length in
@@ -76,7 +76,6 @@ window_put n id v x may number none items views _ (put, taken, marks_left, marks
         record {
           numbered = λ k u e. ⊎_elim (λ t. r.numbered k u t) (λ t. ap (λ (y : Window). y.number) (sym t.1) ∙ number_is ∙ sym t.0) (at_one_more put x k u e);
           few = omega (arith, r.few, longer);
-          few_marks = r.few_marks;
           holds =
               ap (λ l. l ++ item.Window x ∷ []) (r.holds ∙ ap (held put taken) no_marks ∙ append-nil (map item.Window (drop taken put)))
               ∙ sym (map-append item.Window (drop taken put) (x ∷ []))
@@ -84,6 +83,7 @@ window_put n id v x may number none items views _ (put, taken, marks_left, marks
               ∙ sym (append-nil (map item.Window (drop taken more)))
               ∙ ap (held more taken) (sym no_marks);
           once = λ k. omega (arith, r.once k, sum_set (λ u. times k u.taken) views id v w at);
+          counted = omega (arith, r.counted, sum_set (λ u. u.marks_taken) views id v w at);
           each = fits_set (Fits more marks caller) views id w
               record {
                 puts = λ _. (is.0, ap (λ l. l ++ x ∷ []) put_is, omega (arith, puts_is, longer));
@@ -117,12 +117,12 @@ mark_put n id v may items views _ (put, taken, marks_left, marks, caller, r) at 
         record {
           numbered = r.numbered;
           few = r.few;
-          few_marks = omega (arith, r.few_marks);
           holds =
               ap (λ l. l ++ item.EndMark ∷ []) r.holds
               ∙ append_assoc (map item.Window (drop taken put)) (end_marks marks_left) (item.EndMark ∷ [])
               ∙ ap (λ ms. map item.Window (drop taken put) ++ ms) (marks_more marks_left);
           once = λ k. omega (arith, r.once k, sum_set (λ u. times k u.taken) views id v w at);
+          counted = omega (arith, r.counted, sum_set (λ u. u.marks_taken) views id v w at);
           each = fits_set (Fits put (suc marks) caller) views id w
               record { puts = λ _. (is.0, is.1, omega (arith, puts_is)); stage = λ p. absurd (true≢false (sym may ∙ p)); taken = mine.taken }
               (λ j u other e. let f : Fits put marks caller j u = r.each j u e in record { puts = λ p. absurd (other ((f.puts p).0 ∙ sym is.0)); stage = f.stage; taken = f.taken });
@@ -151,10 +151,10 @@ window_taken id v x rest items views put taken marks_left marks caller left is i
     record {
       numbered = r.numbered;
       few = omega (arith, below);
-      few_marks = r.few_marks;
       holds = is ∙ ap (λ l. map item.Window l ++ end_marks marks_left) (sym after);
       once = λ k. let counted : cond {A = ℕ} (eqb x.number k) 1 0 ≡ cond (eqb taken k) 1 0 = ap (λ n. cond {A = ℕ} (eqb n k) 1 0) number in
           omega (arith, r.once k, once_more k taken, counted, sum_set (λ u. times k u.taken) views id v w at, times-append k v.taken (x ∷ []), sum_by-cons (λ (u : Window). cond {A = ℕ} (eqb u.number k) 1 0) x []);
+      counted = omega (arith, r.counted, sum_set (λ u. u.marks_taken) views id v w at);
       each = fits_set (Fits put marks caller) views id w
           record { puts = mine.puts; stage = mine.stage; taken = All-append (IsOneOf put) v.taken (x ∷ []) mine.taken (just (IsOneOf put) x it_is) }
           (λ j u other e. r.each j u e);
@@ -162,16 +162,19 @@ window_taken id v x rest items views put taken marks_left marks caller left is i
 
 -- an end mark is taken
 mark_taken : (id : ℕ) (v : PassView) (m : ℕ) (items : List Item) (views : List PassView) (put : List Window) (taken marks_left marks caller : ℕ) →
-    drop taken put ≡ [] → items ≡ end_marks m → m ≤ marks → (its : List Item) → Ruled put taken marks_left marks caller its views → get_elem? views id ≡ some v →
-    Ruled put taken m marks caller items (set views id v)
-mark_taken id v m items views put taken marks_left marks caller none is few its r at = record {
-  numbered = r.numbered;
-  few = r.few;
-  few_marks = few;
-  holds = is ∙ ap (λ l. map item.Window l ++ end_marks m) (sym none);
-  once = λ k. omega (arith, r.once k, sum_set (λ u. times k u.taken) views id v v at);
-  each = fits_set (Fits put marks caller) views id v (r.each id v at) (λ j u other e. r.each j u e);
-}
+    drop taken put ≡ [] → items ≡ end_marks m → marks_left ≡ suc m → (its : List Item) → Ruled put taken marks_left marks caller its views → get_elem? views id ≡ some v →
+    Ruled put taken m marks caller items (set views id (after_take v item.EndMark))
+mark_taken id v m items views put taken marks_left marks caller none is left its r at =
+    let w : PassView = after_take v item.EndMark in
+    let mine : Fits put marks caller id v = r.each id v at in
+    record {
+      numbered = r.numbered;
+      few = r.few;
+      holds = is ∙ ap (λ l. map item.Window l ++ end_marks m) (sym none);
+      once = λ k. omega (arith, r.once k, sum_set (λ u. times k u.taken) views id v w at);
+      counted = omega (arith, r.counted, left, sum_set (λ u. u.marks_taken) views id v w at);
+      each = fits_set (Fits put marks caller) views id w record { puts = mine.puts; stage = mine.stage; taken = mine.taken } (λ j u other e. r.each j u e);
+    }
 
 -- whatever stands first
 first_taken : (id : ℕ) (v : PassView) (x : Item) (items : List Item) (views : List PassView) (put : List Window) (taken marks_left marks caller : ℕ) →
@@ -189,9 +192,8 @@ first_taken id v x items views put taken marks_left marks caller r at [] left (s
     let all : x ∷ items ≡ item.EndMark ∷ end_marks m = r.holds ∙ (λ i. map item.Window (left i) ++ end_marks (some_marks i)) in
     let head : item.EndMark ≡ x = cc in
     let tail : items ≡ end_marks m = cc in
-    let few : m ≤ marks = omega (arith, r.few_marks, some_marks) in
     subst (λ (z : Item). IsRuled items (set views id (after_take v z))) head
-    (put, taken, m, marks, caller, mark_taken id v m items views put taken marks_left marks caller left tail few (x ∷ items) r at)
+    (put, taken, m, marks, caller, mark_taken id v m items views put taken marks_left marks caller left tail some_marks (x ∷ items) r at)
 
 pub takes : (id : ℕ) (v : PassView) → Pops IsRuled id v (λ x w. w ≡ after_take v x)
 takes id v x items views (put, taken, marks_left, marks, caller, r) at =
@@ -209,9 +211,9 @@ splits id v items views (put, taken, marks_left, marks, caller, r) at =
       record {
         numbered = r.numbered;
         few = r.few;
-        few_marks = r.few_marks;
         holds = r.holds;
         once = λ k. omega (arith, r.once k, sum_set (λ u. times k u.taken) views id v v at, sum_by-append (λ (u : PassView). times k u.taken) vs (stage_view ∷ []));
+        counted = omega (arith, r.counted, sum_set (λ u. u.marks_taken) views id v v at, sum_by-append (λ (u : PassView). u.marks_taken) vs (stage_view ∷ []));
         each = λ j u e. ⊎_elim (λ t. old j u t) (λ t. subst (λ (z : PassView). Fits put marks caller j z) t (stage_fits put marks caller j)) (at_snoc vs stage_view u j e);
       },
     )
@@ -231,9 +233,9 @@ joins id v other u may items views (put, taken, marks_left, marks, caller, r) at
       record {
         numbered = r.numbered;
         few = r.few;
-        few_marks = r.few_marks;
         holds = r.holds;
         once = λ k. omega (arith, r.once k, sum_set (λ y. times k y.taken) views id v w at, sum_set (λ y. times k y.taken) vs other u stage_view there, times-append k v.taken u.taken);
+        counted = omega (arith, r.counted, sum_set (λ y. y.marks_taken) views id v w at, sum_set (λ y. y.marks_taken) vs other u stage_view there);
         each = fits_set (Fits put marks caller) vs other stage_view (stage_fits put marks caller other)
             (λ j y _ e. fits_set (Fits put marks caller) views id w
             record { puts = mine.puts; stage = mine.stage; taken = All-append (IsOneOf put) v.taken u.taken mine.taken theirs.taken }

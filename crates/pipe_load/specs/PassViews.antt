@@ -9,10 +9,10 @@ use Rattle.pipe_load.specs.declared.window.Item.TheVariants as item
 
 -- the caller at first, and a stage at first: nothing is put and nothing is taken
 abbrev pub caller_view : PassView
-caller_view = record { is_caller = true; put = []; puts = 0; taken = [] }
+caller_view = record { is_caller = true; put = []; puts = 0; taken = []; marks_taken = 0 }
 
 abbrev pub stage_view : PassView
-stage_view = record { is_caller = false; put = []; puts = 0; taken = [] }
+stage_view = record { is_caller = false; put = []; puts = 0; taken = []; marks_taken = 0 }
 
 -- the caller has put one more item
 abbrev pub after_put : PassView → Item → PassView
@@ -22,15 +22,15 @@ after_put v item.EndMark = record v { puts = v.puts + 1 }
 -- a pass has taken one more item
 abbrev pub after_take : PassView → Item → PassView
 after_take v (item.Window w) = record v { taken = v.taken ++ w ∷ [] }
-after_take v item.EndMark = v
+after_take v item.EndMark = record v { marks_taken = v.marks_taken + 1 }
 
 -- the caller has put so many more end marks
 abbrev pub with_marks : PassView → ℕ → PassView
 with_marks v n = record v { puts = v.puts + n }
 
--- what a stage took goes to the caller's list
+-- what a stage took goes to the caller's list and count
 abbrev pub joined_view : PassView → PassView → PassView
-joined_view v stage = record v { taken = v.taken ++ stage.taken }
+joined_view v stage = record v { taken = v.taken ++ stage.taken; marks_taken = v.marks_taken + stage.marks_taken }
 
 -- windows are put in the order of their numbers, and none behind an end mark
 abbrev pub IsNext : PassView → Item → Type 0

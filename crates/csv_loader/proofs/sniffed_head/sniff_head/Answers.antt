@@ -1,4 +1,4 @@
-use Rattle.std.proofs.Common.{◌≡◌, ◌≤◌, false, [], sym, append-nil, rules}
+use Rattle.std.proofs.Common.{◌≡◌, ◌≤◌, false, [], sym, append-nil, rules, arith}
 use Rattle.std.proofs.KnownBytes.{Consumes-nil}
 use Rattle.window_load.specs.Window.{reach}
 use Rattle.csv_loader.specs.Loading.{IsFinding}
@@ -10,6 +10,7 @@ returns-then-not-reads_on-clause-ok g c = record {
   head = c.requires.head;
   finding = c.in_ok-finding.ensures.ok;
   moved = ([], sym (append-nil c.args.head.kept), Consumes-nil (g.S.Source.left c.args.source.now));
+  within = omega arith;
 }
 
 pub returns-clause-ok : goal.returns-clause-ok
@@ -19,4 +20,4 @@ returns-clause-ok g c =
     let fits : reach next ≤ next.most = search rules in
     let finding : IsFinding c.args.options.now c.args.head.kept c.in_ok-found.field-0 = search rules in
     sniffed_on c.args.options.now (g.S.Source.left c.args.source.now) (g.S.Source.left c.sniff_beside-found.new.source) c.args.head c.copy_rest.new.self next c.requires.head going
-    c.in_ok-copy_rest.ensures.ok c.sniff_beside-found.ensures.moved c.sniff_beside-found.ensures.same.0 c.sniff_beside-found.ensures.same.1 c.in_ok-found.field-0 fits finding
+    c.in_ok-copy_rest.ensures.ok c.sniff_beside-found.ensures.moved c.sniff_beside-found.ensures.same.0 c.sniff_beside-found.ensures.same.1 c.in_ok-found.field-0 fits c.sniff_beside-found.ensures.within finding
