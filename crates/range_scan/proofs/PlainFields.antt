@@ -1,45 +1,30 @@
--- The fields of a row that is read plain value by plain value.
-use Rattle.std.proofs.Common.{◌≡◌, ℕ, ◌+◌, ◌-◌, ◌<◌, ◌≤◌, Bool, true, false, ◌&&◌, cond, List, [], ◌∷◌, ◌++◌, map, drop, length, get_or, refl, sym, ◌∙◌, ap, inl, inr, arith}
-use Rattle.std.specs.Prelude.{◌==◌, ◌||◌, Option, Some, None, IfSome, slice_range}
+-- The field of a plain value, and an empty one.
+use Rattle.std.proofs.Common.{◌≡◌, ℕ, zero, suc, take, drop, ◌+◌, ◌-◌, ◌<◌, ◌≤◌, Bool, true, false, ◌&&◌, cond, List, [], ◌∷◌, length, get_or, refl, sym, ◌∙◌, ap, subst, arith}
+use Rattle.std.specs.Prelude.{◌==◌, Option, Some, None, IfSome, slice_get, slice_range}
 use Rattle.std.specs.List.{list_all}
-use Rattle.std.proofs.lemmas.Bool.{ne_eqb}
-use Rattle.std.proofs.lemmas.List.{drop_more, map_push}
-use Rattle.std.proofs.lemmas.List.Edits.{length-between}
-use Rattle.std.proofs.lemmas.List.Folds.{drop_split, list_all_at}
+use Rattle.std.specs.Option.{is_some}
+use Rattle.std.specs.Str.{bytes_eq}
+use Rattle.std.proofs.lemmas.Bool.{and_parts, and_from, ne_eqb, or_left, or_right, true≢false}
+use Rattle.std.proofs.lemmas.List.Edits.{get_or-between, length-between}
+use Rattle.std.proofs.lemmas.List.Folds.{list_all_at}
+use Rattle.std.proofs.lemmas.Option.{none-some, same_Some}
 use Rattle.byte_classes.specs.declared.class.Class.TheVariants as class
 use Rattle.byte_classes.specs.Dialect.{Marks, is_byte}
 use Rattle.byte_classes.specs.Class.{class_of, same_class}
-use Rattle.byte_classes.specs.Fault.{is_line_end_byte}
 use Rattle.byte_classes.specs.Special.{is_special}
-use Rattle.byte_classes.proofs.ClassLaws.{class_of-delim}
-use Rattle.quote_automaton.specs.declared.state.State.TheVariants.{RowStart, FieldStart}
-use Rattle.quote_automaton.specs.Automaton.{state_after, is_inside_quotes}
-use Rattle.quote_automaton.specs.Rows.{begins_comment, row_at, row_end}
-use Rattle.quote_automaton.specs.RowEnd.{row_len}
 use Rattle.row_fields.specs.declared.field.Ending.TheVariants as ending
-use Rattle.row_fields.specs.declared.field.FieldEnd.{FieldEnd}
-use Rattle.row_fields.specs.declared.span.Span.{Span}
-use Rattle.row_fields.specs.declared.span.Store.TheVariants.{Row}
-use Rattle.row_fields.specs.Fields.{Field, is_quoted, is_sound_end, unescaped, inner, raw_fields, fields_from, fields, flaw}
-use Rattle.row_fields.specs.Reading.{ends_field, ReadsField, PlacesField, HasRead, rest_at}
-use Rattle.row_fields.specs.Split.{field_in, row_from}
-use Rattle.row_fields.proofs.Leading.{LeadsBare, leads_bare, line_end_class}
-use Rattle.row_fields.proofs.FrontReading.{IsLast, is_row_len, is_split}
-use Rattle.row_fields.proofs.RowSteps.{row_at-start, begins-row_at, raw_fields-start, row_at-ended, raw_fields-last, other_ends_row}
-use Rattle.range_scan.specs.PlainRows.{IsRunAt, LeavesPlain}
-
-class_is_delim : (d : Marks) (b : ℕ) → (b == d.delim) ≡ false → same_class (class_of d b) class.Delim ≡ false
-class_is_delim d b h =
-    ap (λ t. same_class (cond (b == 10) class.Lf (cond (b == 13) class.Cr (cond t class.Delim (cond (is_byte d.quote b) class.Quote (cond (is_byte d.escape b) class.Escape (cond (is_byte d.comment b) class.Comment class.Other)))))) class.Delim) h
-    ∙ by_tests (b == 10) (b == 13) (is_byte d.quote b) (is_byte d.escape b) (is_byte d.comment b) where
-      by_tests : (lf cr quote escape comment : Bool) →
-          same_class (cond lf class.Lf (cond cr class.Cr (cond quote class.Quote (cond escape class.Escape (cond comment class.Comment class.Other))))) class.Delim ≡ false
-      by_tests true cr quote escape comment = refl
-      by_tests false true quote escape comment = refl
-      by_tests false false true escape comment = refl
-      by_tests false false false true comment = refl
-      by_tests false false false false true = refl
-      by_tests false false false false false = refl
+use Rattle.row_fields.specs.Fields.{is_quoted}
+use Rattle.row_fields.specs.Reading.{ReadsField}
+use Rattle.value_types.specs.declared.types.ColumnType.{ColumnType}
+use Rattle.value_types.specs.declared.types.ColumnType.TheVariants as types
+use Rattle.value_types.specs.Datum.{Datum, null}
+use Rattle.value_types.specs.OfType.{typed_cell}
+use Rattle.value_types.specs.Plain.{is_plain, IsPlainAt}
+use Rattle.reject_book.specs.declared.reject.Schema.{Schema}
+use Rattle.reject_book.specs.Casting.{cell_at}
+use Rattle.range_scan.specs.declared.context.Context.{Context}
+use Rattle.range_scan.specs.FastRows.{begins_plain, is_plain_in, HoldsFields, IsField, LeavesPlain}
+use Rattle.range_scan.proofs.FastFields.{bare_field_of, reads_ordinary}
 
 -- ---- a plain byte
 
@@ -84,93 +69,99 @@ module _ (p : ℕ → Bool) where
         by_test true = refl
         by_test false = refl
 
-    -- ---- one field
-
     bare_front : (xs : List ℕ) → list_all p xs ≡ true → is_quoted d xs ≡ false
     bare_front [] all = refl
     bare_front (x ∷ xs) all = no_mark d.quote x (all_at (x ∷ xs) all 0 (omega arith)) holds.quote
 
-    pub no_comment_front : (xs rest : List ℕ) → 0 < length xs → list_all p xs ≡ true → begins_comment d (xs ++ rest) ≡ false
-    no_comment_front [] rest some all = absurd (let n : ⊥ = omega (arith, some) in n)
-    no_comment_front (x ∷ xs) rest some all = plain_is_no_comment x (all_at (x ∷ xs) all 0 (omega arith))
+    pub reads_plain : (bytes : List ℕ) (from end : ℕ) → from ≤ end → end < length bytes → list_all p (slice_range bytes from end) ≡ true → is_special false (class_of d (get_or bytes end 0)) ≡ true →
+        (is_quoted d (slice_range bytes from end) ≡ false) × ReadsField d bytes from (record { at = end; ending = ending.Bare })
+    reads_plain bytes from end low high all stops =
+        let raw : List ℕ = slice_range bytes from end in
+        let bare : is_quoted d raw ≡ false = bare_front raw all in
+        (bare, reads_ordinary d bytes from end low high bare (λ k lt. plain_is_ordinary (get_or raw k 0) (all_at raw all k lt)) stops)
 
-    module _ (bytes : List ℕ) (from end : ℕ) (is : IsRunAt p bytes from end) (stops : is_special false (class_of d (get_or bytes end 0)) ≡ true) where
-      abbrev raw : List ℕ
-      raw = slice_range bytes from end
+-- ---- its cell
 
-      long : length raw ≡ end - from
-      long = let high : end ≤ length bytes = omega (arith, is.high) in length-between bytes from end high
+not_null : (p : ℕ → Bool) (value nullstr : List ℕ) → 0 < length value → list_all p value ≡ true → begins_plain p nullstr ≡ false → bytes_eq value nullstr ≡ false
+not_null p [] nullstr some num other = absurd (let n : ⊥ = omega (arith, some) in n)
+not_null p (b ∷ value) [] some num other = refl
+not_null p (b ∷ value) (m ∷ nullstr) some num other = ap (λ t. t && bytes_eq value nullstr) (differs p b m (all_at p (b ∷ value) num 0 (omega arith)) other)
 
-      bare : is_quoted d raw ≡ false
-      bare = bare_front raw is.plain
+plain_cell : (schema : Schema) (p : ℕ → Bool) (ty : ColumnType) (at : ℕ) (value : List ℕ) → begins_plain p schema.nullstr ≡ false → 0 < length value → list_all p value ≡ true →
+    cell_at schema ty (Some (record { at = at; quoted = false; value = value })) ≡ typed_cell value ty
+plain_cell schema p ty at value other some num = λ i. cond (not_null p value schema.nullstr some num other i && true) (Some null) (typed_cell value ty)
 
-      -- the field as it is read
-      abbrev pub read_end : FieldEnd
-      read_end = record { at = end; ending = ending.Bare }
+plain_byte_is_ascii : (ty : ColumnType) (b : ℕ) → is_plain ty b ≡ true → b < 128
+plain_byte_is_ascii types.Boolean b is = grind (arith, is)
+plain_byte_is_ascii types.Bigint b is = grind (arith, is)
+plain_byte_is_ascii types.Date b is = grind (arith, is)
+plain_byte_is_ascii types.Time b is = grind (arith, is)
+plain_byte_is_ascii types.Timestamp b is = grind (arith, is)
+plain_byte_is_ascii types.Varchar b is = absurd (true≢false (sym is))
 
-      leads : LeadsBare d raw
-      leads = leads_bare d raw (λ k lt. plain_is_ordinary (get_or raw k 0) (all_at raw is.plain k lt)) (λ some. plain_is_no_quote (get_or raw 0 0) (all_at raw is.plain 0 some))
+-- a byte that is plain to the type of a column is plain to the columns
+plain_to_all : (tys : List ColumnType) (k : ℕ) (ty : ColumnType) (b : ℕ) → slice_get tys k ≡ Some ty → is_plain ty b ≡ true → is_plain_in tys b ≡ true
+plain_to_all [] k ty b is plain = absurd (none-some ty is)
+plain_to_all (t ∷ tys) zero ty b is plain = or_left (is_plain t b) (is_plain_in tys b) (ap (λ u. is_plain u b) (same_Some t ty is) ∙ plain)
+plain_to_all (t ∷ tys) (suc k) ty b is plain = or_right (is_plain t b) (is_plain_in tys b) (plain_to_all tys k ty b is plain)
 
-      pub reads_run : ReadsField d bytes from read_end
-      reads_run = record {
-        low = omega (arith, is.low);
-        high = omega (arith, is.high);
-        inside = leads.leads.inside;
-        stops = λ more. ap (λ s. ends_field d s (get_or bytes end 0)) leads.leads.to ∙ leads.stops (class_of d (get_or bytes end 0)) stops;
-        ends = (bare, leads.leads.unbroken, ap is_inside_quotes leads.leads.to ∙ leads.outside);
+all_plain : (tys : List ColumnType) (k : ℕ) (ty : ColumnType) (xs : List ℕ) → slice_get tys k ≡ Some ty → list_all (is_plain ty) xs ≡ true → list_all (is_plain_in tys) xs ≡ true
+all_plain tys k ty [] is all = refl
+all_plain tys k ty (x ∷ xs) is all = let parts = and_parts _ _ all in and_from _ _ (plain_to_all tys k ty x is parts.0) (all_plain tys k ty xs is parts.1)
+
+module _ (ty : ColumnType) (bytes : List ℕ) (from end : ℕ) (at : IsPlainAt ty bytes from end) where
+  abbrev raw : List ℕ
+  raw = slice_range bytes from end
+
+  pub plain_is_ascii : (k : ℕ) → from ≤ k → k < end → get_or bytes k 0 < 128
+  plain_is_ascii k low lt =
+      let high : end ≤ length bytes = omega (arith, at.high) in
+      let below : from + (k - from) < end = omega (arith, lt, low) in
+      let place : from + (k - from) ≡ k = omega (arith, low) in
+      let inside : k - from < length raw = omega (arith, lt, low, length-between bytes from end high) in
+      subst (λ b. b < 128) (get_or-between bytes from end (k - from) 0 below ∙ ap (λ n. get_or bytes n 0) place)
+      (plain_byte_is_ascii ty (get_or raw (k - from) 0) (all_at (is_plain ty) raw at.plain (k - from) inside))
+
+  pub plain_value : (cell : Datum) × (typed_cell raw ty ≡ Some cell)
+  plain_value = by_option (typed_cell raw ty) at.spelled where
+    by_option : (o : Option Datum) → is_some o ≡ true → (cell : Datum) × (o ≡ Some cell)
+    by_option None is = absurd (true≢false (sym is))
+    by_option (Some cell) is = (cell, refl)
+
+  pub plain_field : (context : Context) → HoldsFields context → (column : ℕ) → slice_get context.schema.types column ≡ Some ty → (cell : Datum) → typed_cell raw ty ≡ Some cell →
+      is_special false (class_of context.dialect (get_or bytes end 0)) ≡ true → IsField context ty bytes from end cell
+  plain_field context holds column next cell value stops =
+      let p : ℕ → Bool = is_plain_in context.schema.types in
+      let all = all_plain context.schema.types column ty raw next at.plain in
+      let low : from ≤ end = omega (arith, at.low) in
+      let high : end ≤ length bytes = omega (arith, at.high) in
+      let reads = reads_plain p context.dialect holds.leaves bytes from end low at.high all stops in
+      record {
+        ending = ending.Bare;
+        sound = refl;
+        reads = reads.1;
+        casts = ap (λ f. cell_at context.schema ty (Some f)) (bare_field_of context.dialect from raw reads.0)
+            ∙ plain_cell context.schema p ty from raw holds.null (omega (arith, at.low, length-between bytes from end high)) all ∙ value;
       }
 
-      -- and its place
-      abbrev pub run_span : Span
-      run_span = record { at = from; from = from; end = end; store = Row; quoted = false }
+-- ---- a field of no bytes
 
-      pub places_run : PlacesField d bytes from end [] [] run_span
-      places_run = record {
-        is = λ i. record { at = from; quoted = sym bare i; value = cond (sym bare i && is_sound_end (state_after d FieldStart raw)) (unescaped d (inner raw)) raw };
-        within = (omega (arith, is.low), omega arith);
-        grown = ([], refl);
-      }
+pub empty_field : (context : Context) (ty : ColumnType) (bytes : List ℕ) (from : ℕ) → from < length bytes → length context.schema.nullstr ≡ 0 →
+    is_special false (class_of context.dialect (get_or bytes from 0)) ≡ true → IsField context ty bytes from from null
+empty_field context ty bytes from high none stops =
+    let raw : List ℕ = slice_range bytes from from in
+    let no_bytes : raw ≡ [] = slice_none bytes from in
+    let bare : is_quoted context.dialect raw ≡ false = ap (is_quoted context.dialect) no_bytes in
+    record {
+      ending = ending.Bare;
+      sound = refl;
+      reads = reads_ordinary context.dialect bytes from from (omega arith) high bare (λ k lt. absurd (let n : ⊥ = omega (arith, lt, ap length no_bytes) in n)) stops;
+      casts = ap (λ f. cell_at context.schema ty (Some f)) (bare_field_of context.dialect from raw bare)
+          ∙ ap (λ v. cond (v && true) (Some null) (typed_cell raw ty)) (ap (λ v. bytes_eq v context.schema.nullstr) no_bytes ∙ empty_is_null context.schema.nullstr none);
+    } where
+      slice_none : (xs : List ℕ) (k : ℕ) → slice_range xs k k ≡ []
+      slice_none xs k = ap (λ n. take n (drop k xs)) (let same : k - k ≡ 0 = omega arith in same)
 
-      -- ---- the fields of the row, where it is the last one
-
-      module _ (spans : List Span) (read : HasRead d bytes from spans []) (last : IsLast d bytes end) (no_comment : begins_comment d bytes ≡ false) where
-        abbrev before : List Field
-        before = map (field_in bytes []) spans
-
-        -- the rest of the row is the value
-        rest_is : IsLast d bytes end → rest_at d bytes from ≡ raw
-        rest_is (inl past) = absurd (let n : ⊥ = omega (arith, past, is.high) in n)
-        rest_is (inr other) =
-            ap (λ v. row_at d FieldStart v 0) (drop_split bytes from end (omega (arith, is.low)) ∙ ap (λ v. raw ++ v) (drop_more bytes end 0 other.0))
-            ∙ row_at-ended d raw (get_or bytes end 0) (drop (end + 1) bytes) reads_run.inside
-            (other_ends_row d (state_after d FieldStart raw) (get_or bytes end 0) (class_is_delim d (get_or bytes end 0) other.1) (reads_run.stops other.0))
-
-        row_is : row_from d bytes 0 ≡ rest_at d bytes 0
-        row_is = let none : 0 + row_end d RowStart bytes 0 ≡ row_end d RowStart bytes 0 = omega arith in ap (slice_range bytes 0) none ∙ row_at-start d bytes no_comment
-
-        pub fields_are : fields d (row_from d bytes 0) ≡ map (field_in bytes []) (spans ++ run_span ∷ [])
-        fields_are =
-            ap (fields d) row_is
-            ∙ ap (fields_from d 0) (raw_fields-start d (rest_at d bytes 0) (begins-row_at d bytes no_comment)) ∙ sym read.fields
-            ∙ ap (λ v. before ++ fields_from d from v) (ap (raw_fields d FieldStart) (rest_is last) ∙ raw_fields-last d raw reads_run.inside)
-            ∙ sym (map_push (field_in bytes []) spans run_span ∙ (λ i. before ++ places_run.is i ∷ []))
-
-        pub no_flaw : flaw d (row_from d bytes 0) ≡ None
-        no_flaw = sym (is_split d bytes from read_end spans [] [] run_span read reads_run places_run last no_comment (length spans) refl).flaw
-
-        pub row_ends : end ≡ row_len d bytes 0
-        row_ends = is_row_len d bytes from read_end spans [] [] run_span read reads_run places_run last no_comment
-
-    -- ---- what may follow a plain value
-
-    pub delim_stops : (b : ℕ) → b ≡ d.delim → is_special false (class_of d b) ≡ true
-    delim_stops b is = ap (is_special false) (ap (class_of d) is ∙ class_of-delim d holds.sound)
-
-    pub line_end_stops : (b : ℕ) → is_line_end_byte b ≡ true → is_special false (class_of d b) ≡ true
-    line_end_stops b is = λ i. (line_end_class d b ∙ is) i || same_class (class_of d b) class.Delim
-
-    pub line_end_is_no_delim : (b : ℕ) → is_line_end_byte b ≡ true → (b == d.delim) ≡ false
-    line_end_is_no_delim b is = ne_eqb b d.delim (λ e.
-        let delim : is_line_end_byte d.delim ≡ false = λ i. ne_eqb d.delim 10 holds.sound.delim.1 i || ne_eqb d.delim 13 holds.sound.delim.2 i in
-        let wrong : true ≡ false = sym is ∙ ap is_line_end_byte e ∙ delim in
-        let n : ⊥ = cc in n)
+      empty_is_null : (nullstr : List ℕ) → length nullstr ≡ 0 → bytes_eq [] nullstr ≡ true
+      empty_is_null [] none = refl
+      empty_is_null (b ∷ nullstr) none = absurd (let n : ⊥ = omega (arith, none) in n)

@@ -4,7 +4,7 @@ use Rattle.std.proofs.lemmas.Bool.{or_from}
 use Rattle.value_types.specs.declared.types.ColumnType.{ColumnType}
 use Rattle.value_types.specs.declared.types.ColumnType.TheVariants as types
 use Rattle.value_types.specs.Plain.{is_plain}
-use Rattle.range_scan.specs.PlainRows.{begins_plain, is_plain_in}
+use Rattle.range_scan.specs.FastRows.{begins_plain, is_plain_in}
 
 no_line_feed : (ty : ColumnType) → is_plain ty 10 ≡ false
 no_line_feed types.Boolean = refl

@@ -14,8 +14,6 @@ use Rattle.column_store.specs.ChunkView.{ChunkView}
 use Rattle.reject_book.specs.declared.reject.Schema.{Schema}
 use Rattle.reject_book.specs.Casting.{cell_at}
 use Rattle.range_scan.specs.declared.context.Context.{Context}
-use Rattle.range_scan.specs.declared.known.Known.{Known}
-use Rattle.range_scan.specs.Steps.{IsTextUpTo}
 
 -- whether a text begins with a byte that may stand in a plain number
 abbrev pub begins_numeral : List ℕ → Bool
@@ -55,8 +53,3 @@ pub record IsNumberRow (context : Context) (bytes : List ℕ) (cells : List Datu
 -- only the row under way has changed
 abbrev pub IsUnder : ChunkView → ChunkView → Type 0
 IsUnder old new = new ≡ record old { unfinished = new.unfinished }
-
--- what is known of the bytes from a place on
-pub record Knows (context : Context) (bytes : List ℕ) (at : ℕ) (known : Known) : Type 0 where
-  pub text : IsTextUpTo bytes at known.text_to
-  pub numbers : known.of_numbers ≡ true → HoldsNumbers context

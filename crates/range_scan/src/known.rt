@@ -1,9 +1,12 @@
 //! What is known of a span's bytes before its rows are read.
-ghost use Rattle.std.specs.Prelude.{◌≤◌, length};
-ghost use Rattle.range_scan.specs.NumberRows.{Knows};
+ghost use Rattle.std.specs.Prelude.{◌≡◌, ◌≤◌, ◌⊎◌, true, length};
+ghost use Rattle.column_store.specs.RowsOfColumns.{HasNoTexts};
+ghost use Rattle.range_scan.specs.declared.context.Context.{Context};
+ghost use Rattle.range_scan.specs.FastRows.{IsKindOf};
+ghost use Rattle.range_scan.specs.Known.{Knows};
 
 use crate::context::Context;
-use crate::number_rows::holds_numbers;
+use crate::fast_rows::FastRows;
 use crate::places::text_end;
 
 /// What one look at a span and its context tells of each row.
@@ -11,27 +14,35 @@ use crate::places::text_end;
 pub struct Known {
     /// The place up to which the bytes are UTF-8.
     pub text_to: usize,
-    /// Whether rows are tried as rows of plain numbers.
-    pub of_numbers: bool,
+    /// As what rows are tried by one look.
+    pub rows: FastRows,
 }
 
 impl Known {
-    /// What is known of the bytes between two places. Rows of plain numbers are ASCII as such, so all bytes are looked at
-    /// only where other rows are expected.
+    /// What is known of the bytes between two places. Where rows that are found by one look are ASCII as such, other rows are
+    /// few, and each is looked at by itself.
     pub fn between(context: &Context, bytes: &[u8], from: usize, to: usize) -> Known
         requires within { (from ≤ to) × (to ≤ length bytes.now) }
         ensures known { Knows context.now bytes.now from result }
         ensures within { result.text_to ≤ to }
     {
-        if holds_numbers(context) {
+        let rows = FastRows::of(context);
+        if rows.is_ascii() {
             return Known {
                 text_to: from,
-                of_numbers: true,
+                rows,
             };
         }
         Known {
             text_to: text_end(bytes, from, to),
-            of_numbers: false,
+            rows,
         }
+    }
+    /// Whether a row that one look found, and that ends at a place, is known to be UTF-8.
+    #[inline(always)]
+    pub fn is_text(self, end: usize) -> bool
+        ensures { (context : Context) → result ≡ true → IsKindOf context self.rows → HasNoTexts context.schema.types ⊎ (end ≤ self.text_to) }
+    {
+        self.rows.is_ascii() || end <= self.text_to
     }
 }

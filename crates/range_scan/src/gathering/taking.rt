@@ -1,25 +1,26 @@
 // The next line of a span is taken.
-ghost use Rattle.std.specs.Prelude.{◌≡◌, ◌≤◌, ◌+◌, length, IfOk, IfSome, None, OnOk};
+ghost use Rattle.std.specs.Prelude.{◌≡◌, ◌≤◌, ◌+◌, drop, false, length, IfOk, IfSome, None, OnOk};
 ghost use Rattle.quote_automaton.specs.RowEnd.{row_len};
-ghost use Rattle.range_scan.specs.NumberRows.{Knows};
+ghost use Rattle.quote_automaton.specs.Rows.{begins_comment};
+ghost use Rattle.range_scan.specs.Known.{Knows};
 ghost use Rattle.range_scan.specs.Steps.{lines_before, verdict_on, CanTake, Gathers, GathersLine};
 
 use crate::context::Context;
+use crate::fast_rows::push_fast;
 use crate::gathering::Gathering;
 use crate::known::Known;
-use crate::number_rows::push_numbers;
 use crate::pushing::push_row;
 use csv_source::NoMemory;
 use quote_automaton::begins_comment;
 use row_fields::comment_end;
 
-/// After so many rows of a span that weren't plain numbers none is tried as one any more.
+/// After so many rows of a span that one look didn't find none is tried so any more.
 const MOST_MISSES: u32 = 64;
 
 impl Gathering {
-    /// Appends the row that begins at a place where it is tried as one of plain numbers and is one, and answers its end.
+    /// Appends the row that begins at a place where one look finds it, and answers its end.
     #[inline(always)]
-    fn take_numbers(
+    fn take_fast(
         &mut self,
         context: &Context,
         bytes: &[u8],
@@ -30,14 +31,15 @@ impl Gathering {
         requires ready { CanTake context.now bytes.now base at self.old }
         requires known { Knows context.now bytes.now at known }
         requires within { known.text_to ≤ length bytes.now }
+        requires no_comment { begins_comment context.now.dialect (drop at bytes.now) ≡ false }
         ensures ok { IfOk result (λ row. IfSome row (λ end. (end ≡ at + row_len context.now.dialect bytes.now at) × (end ≤ length bytes.now) × (self.new.book ≡ self.old.book))) }
         ensures value { IfOk result (λ row. IfSome row (λ end. Gathers (verdict_on context.now bytes.now base (lines_before self.old bytes.now at) at) bytes.now at self.old self.new)) }
         ensures none { IfOk result (λ row. row ≡ None → self.new ≡ record self.old { misses = self.new.misses }) }
     {
-        if !known.of_numbers || self.misses >= MOST_MISSES {
+        if self.misses >= MOST_MISSES {
             return Ok(None);
         }
-        match push_numbers(&mut self.chunk, context, bytes, at)? {
+        match push_fast(&mut self.chunk, context, bytes, at, known)? {
             Some(end) => Ok(Some(end)),
             None => {
                 self.misses += 1;
@@ -77,28 +79,6 @@ impl Gathering {
         Ok(end)
     }
 
-    /// Reads the row that begins at a place, keeps it or its faults, and answers its end.
-    fn take_row(
-        &mut self,
-        context: &Context,
-        bytes: &[u8],
-        base: u64,
-        at: usize,
-        known: Known,
-    ) -> Result<usize, NoMemory>
-        requires ready { CanTake context.now bytes.now base at self.old }
-        requires known { Knows context.now bytes.now at known }
-        requires within { known.text_to ≤ length bytes.now }
-        ensures ok { IfOk result (λ end. end ≡ at + row_len context.now.dialect bytes.now at) }
-        ensures value { OnOk result (Gathers (verdict_on context.now bytes.now base (lines_before self.old bytes.now at) at) bytes.now at self.old self.new) }
-        ensures within { IfOk result (λ end. (end ≤ length bytes.now) × (self.new.book.all ≤ end + 1)) }
-    {
-        match self.take_numbers(context, bytes, base, at, known)? {
-            Some(end) => Ok(end),
-            None => self.take_fields(context, bytes, base, at, known),
-        }
-    }
-
     /// Reads the line that begins at a place, and answers its end. A row or its faults are kept, and a comment is passed over.
     pub fn take_line(
         &mut self,
@@ -118,6 +98,9 @@ impl Gathering {
         if begins_comment(&context.dialect, &bytes[at..]) {
             return Ok(comment_end(&context.dialect, bytes, at));
         }
-        self.take_row(context, bytes, base, at, known)
+        match self.take_fast(context, bytes, base, at, known)? {
+            Some(end) => Ok(end),
+            None => self.take_fields(context, bytes, base, at, known),
+        }
     }
 }

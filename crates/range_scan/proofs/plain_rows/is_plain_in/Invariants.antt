@@ -1,6 +1,0 @@
-use Rattle.std.proofs.Common.{◌≡◌, take, false}
-use Rattle.range_scan.specs.PlainRows.{is_plain_in}
-use Rattle.range_scan.proofs.plain_rows.is_plain_in.Given as goal
-
-abbrev pub invariant-loop-column : goal.invariant-loop-column
-invariant-loop-column l = is_plain_in (take l.column l.types) l.byte ≡ false

@@ -1,0 +1,84 @@
+-- Rows whose fields are found and cast by one look, each behind the last one's delimiter.
+use Rattle.std.specs.Prelude.{◌≡◌, ◌≢◌, ◌<◌, ◌≤◌, ℕ, Bool, true, false, List, [], ◌∷◌, ◌++◌, length, map, IfSome, Some, None, Option, slice_index, slice_range, ⊤}
+use Rattle.std.specs.List.{list_any}
+use Rattle.byte_classes.specs.Class.{class_of}
+use Rattle.byte_classes.specs.Dialect.{IsDialect, Marks}
+use Rattle.byte_classes.specs.Special.{is_special}
+use Rattle.quote_automaton.specs.RowEnd.{row_len}
+use Rattle.row_fields.specs.declared.field.Ending.{Ending}
+use Rattle.row_fields.specs.Fields.{Field, fields, flaw}
+use Rattle.row_fields.specs.Reading.{ReadsField, field_of, flaw_place}
+use Rattle.row_fields.specs.Split.{row_from}
+use Rattle.value_types.specs.declared.types.ColumnType.{ColumnType}
+use Rattle.value_types.specs.declared.types.ColumnType.TheVariants.{Varchar}
+use Rattle.value_types.specs.Datum.{Datum}
+use Rattle.value_types.specs.Plain.{is_plain}
+use Rattle.column_store.specs.ChunkView.{ChunkView}
+use Rattle.column_store.specs.RowsOfColumns.{HasNoTexts}
+use Rattle.reject_book.specs.declared.reject.Schema.{Schema}
+use Rattle.reject_book.specs.Casting.{cell_at}
+use Rattle.range_scan.specs.declared.context.Context.{Context}
+use Rattle.range_scan.specs.declared.fast_rows.kinds.FastRows.{FastRows}
+use Rattle.range_scan.specs.declared.fast_rows.kinds.FastRows.TheVariants.{Never, Numbers, Values}
+use Rattle.range_scan.specs.NumberRows.{HoldsNumbers}
+
+-- a byte of a plain value of one of the types
+abbrev pub is_plain_in : List ColumnType → ℕ → Bool
+is_plain_in types b = list_any (λ ty. is_plain ty b) types
+
+-- no such byte ends a line, and to none the dialect gives a meaning
+pub record LeavesPlain (p : ℕ → Bool) (d : Marks) : Type 0 where
+  pub sound : IsDialect d
+  pub lf : p 10 ≡ false
+  pub cr : p 13 ≡ false
+  pub delim : p d.delim ≡ false
+  pub quote : IfSome d.quote (λ q. p q ≡ false)
+  pub comment : IfSome d.comment (λ k. p k ≡ false)
+
+-- whether a text begins with such a byte
+abbrev pub begins_plain : (ℕ → Bool) → List ℕ → Bool
+begins_plain p [] = false
+begins_plain p (b ∷ text) = p b
+
+-- there are columns, and to a byte of a plain value of theirs neither the dialect nor the text that stands for null gives a meaning
+pub record HoldsFields (context : Context) : Type 0 where
+  pub some : 1 ≤ length context.schema.types
+  pub leaves : LeavesPlain (is_plain_in context.schema.types) context.dialect
+  pub null : begins_plain (is_plain_in context.schema.types) context.schema.nullstr ≡ false
+
+-- as what the rows of a file may be tried
+abbrev pub IsKindOf : Context → FastRows → Type 0
+IsKindOf context Never = ⊤
+IsKindOf context Numbers = HoldsNumbers context
+IsKindOf context Values = HoldsFields context × HasNoTexts context.schema.types
+
+-- the field between two places, whose cell in a column of this type is this one
+pub record IsField (context : Context) (ty : ColumnType) (bytes : List ℕ) (from end : ℕ) (cell : Datum) : Type 0 where
+  pub ending : Ending
+  pub sound : flaw_place from ending ≡ None
+  pub reads : ReadsField context.dialect bytes from (record { at = end; ending = ending })
+  pub casts : cell_at context.schema ty (Some (field_of context.dialect from (slice_range bytes from end))) ≡ Some cell
+
+-- a cell is pushed, of the field that ends at a place if a byte stands there that ends fields
+pub record IsFieldPushed (context : Context) (ty : ColumnType) (bytes : List ℕ) (from : ℕ) (old new : ChunkView) (end : ℕ) : Type 0 where
+  pub low : from ≤ end
+  pub high : end < length bytes
+  pub cell : Datum
+  pub pushed : new ≡ record old { unfinished = old.unfinished ++ cell ∷ [] }
+  pub is : is_special false (class_of context.dialect (slice_index bytes end)) ≡ true → IsField context ty bytes from end cell
+  pub ascii : ty ≢ Varchar → (k : ℕ) → from ≤ k → k < end → slice_index bytes k < 128
+
+-- the cells of fields in the first columns
+abbrev pub cells_in : Schema → List ColumnType → List Field → List (Option Datum)
+cells_in schema [] fs = []
+cells_in schema (ty ∷ tys) [] = []
+cells_in schema (ty ∷ tys) (f ∷ fs) = cell_at schema ty (Some f) ∷ cells_in schema tys fs
+
+-- the row at the front of the bytes ends at a place, and its fields have these cells
+pub record IsFastRow (context : Context) (bytes : List ℕ) (cells : List Datum) (end : ℕ) : Type 0 where
+  pub is_len : end ≡ row_len context.dialect bytes 0
+  pub within : end ≤ length bytes
+  pub ascii : HasNoTexts context.schema.types → (k : ℕ) → k < end → slice_index bytes k < 128
+  pub flawless : flaw context.dialect (row_from context.dialect bytes 0) ≡ None
+  pub count : length (fields context.dialect (row_from context.dialect bytes 0)) ≡ length cells
+  pub are : cells_in context.schema context.schema.types (fields context.dialect (row_from context.dialect bytes 0)) ≡ map Some cells

@@ -1,0 +1,96 @@
+//! As what the rows of a file are tried.
+ghost use Rattle.std.specs.Prelude.{◌≡◌, false, true, IfSome};
+ghost use Rattle.column_store.specs.RowsOfColumns.{HasNoTexts};
+ghost use Rattle.range_scan.specs.declared.context.Context.{Context};
+ghost use Rattle.range_scan.specs.FastRows.{HoldsFields, IsKindOf, is_plain_in};
+
+use super::numbers::holds_numbers;
+use crate::context::Context;
+use value_types::{ColumnType, Types, is_plain};
+
+/// As what a row is tried by one look at its bytes.
+#[derive(Clone, Copy)]
+pub enum FastRows {
+    /// Not at all.
+    Never,
+    /// As one of plain numbers alone.
+    Numbers,
+    /// As one of plain values and empty fields: such a row is ASCII.
+    Values,
+}
+
+/// Whether a byte may stand in a plain value of one of the types.
+fn is_plain_in(types: &Types, byte: u8) -> bool
+    ensures { result ≡ is_plain_in types.now byte }
+{
+    for column in 0..types.len() {
+        if is_plain(types.get(column), byte) {
+            return true;
+        }
+    }
+    false
+}
+
+/// Whether there is a byte, and it may stand in a plain value of one of the types.
+fn is_plain_mark(types: &Types, mark: Option<u8>) -> bool
+    ensures { result ≡ false → IfSome mark (λ b. is_plain_in types.now b ≡ false) }
+{
+    match mark {
+        Some(byte) => is_plain_in(types, byte),
+        None => false,
+    }
+}
+
+/// Whether no column holds texts.
+fn has_no_texts(types: &Types) -> bool
+    ensures { result ≡ true → HasNoTexts types.now }
+{
+    for column in 0..types.len() {
+        if types.get(column) == ColumnType::Varchar {
+            return false;
+        }
+    }
+    true
+}
+
+/// Whether rows are tried field by field: there are columns, and no byte of a value of theirs is the delimiter, can open
+/// quotes or a comment, or begins the text that stands for null.
+fn holds_fields(context: &Context) -> bool
+    ensures { result ≡ true → HoldsFields context.now }
+{
+    let dialect = &context.dialect;
+    let types = &context.schema.types;
+    if is_plain_in(types, dialect.delim())
+        || is_plain_mark(types, dialect.quote())
+        || is_plain_mark(types, dialect.comment())
+    {
+        return false;
+    }
+    let null = context.schema.nullstr.as_slice();
+    if !null.is_empty() && is_plain_in(types, null[0]) {
+        return false;
+    }
+    types.len() > 0
+}
+
+impl FastRows {
+    /// As what the rows of a file are tried.
+    pub fn of(context: &Context) -> FastRows
+        ensures { IsKindOf context.now result }
+    {
+        if holds_numbers(context) {
+            return FastRows::Numbers;
+        }
+        if has_no_texts(&context.schema.types) && holds_fields(context) {
+            return FastRows::Values;
+        }
+        FastRows::Never
+    }
+
+    /// Whether a row that is found so is ASCII, so that nobody has to look whether it is UTF-8.
+    pub fn is_ascii(self) -> bool
+        ensures { (context : Context) → result ≡ true → IsKindOf context self → HasNoTexts context.schema.types }
+    {
+        matches!(self, FastRows::Numbers | FastRows::Values)
+    }
+}
