@@ -1,5 +1,5 @@
 -- No plain byte ends a line, and what the null text begins with.
-use Rattle.std.proofs.Common.{◌≡◌, ℕ, Bool, false, List, [], ◌∷◌, length, get_or, refl, arith}
+use Rattle.std.proofs.Common.{◌≡◌, ◌<◌, ℕ, Bool, false, List, [], ◌∷◌, length, get_or, refl, arith}
 use Rattle.std.proofs.lemmas.Bool.{or_from}
 use Rattle.value_types.specs.declared.types.ColumnType.{ColumnType}
 use Rattle.value_types.specs.declared.types.ColumnType.TheVariants as types
@@ -30,9 +30,9 @@ pub none_is_cr : (tys : List ColumnType) → is_plain_in tys 13 ≡ false
 none_is_cr [] = refl
 none_is_cr (ty ∷ tys) = or_from (is_plain ty 13) (is_plain_in tys 13) (no_return ty) (none_is_cr tys)
 
-pub begins_other : (p : ℕ → Bool) (text : List ℕ) → p (get_or text 0 0) ≡ false → begins_plain p text ≡ false
-begins_other p [] other = refl
-begins_other p (b ∷ text) other = other
+pub begins_is : (p : ℕ → Bool) (text : List ℕ) → 0 < length text → begins_plain p text ≡ p (get_or text 0 0)
+begins_is p [] some = absurd (let n : ⊥ = omega (arith, some) in n)
+begins_is p (b ∷ text) some = refl
 
 pub begins_none : (p : ℕ → Bool) (text : List ℕ) → length text ≡ 0 → begins_plain p text ≡ false
 begins_none p [] none = refl

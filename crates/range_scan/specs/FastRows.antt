@@ -1,5 +1,5 @@
 -- Rows whose fields are found and cast by one look, each behind the last one's delimiter.
-use Rattle.std.specs.Prelude.{◌≡◌, ◌≢◌, ◌<◌, ◌≤◌, ℕ, Bool, true, false, List, [], ◌∷◌, ◌++◌, length, map, IfSome, Some, None, Option, slice_index, slice_range, ⊤}
+use Rattle.std.specs.Prelude.{◌≡◌, ◌≢◌, ◌<◌, ◌≤◌, ℕ, Bool, true, false, List, [], ◌∷◌, ◌++◌, length, map, IfSome, Some, None, Option, slice_index, slice_range, if◌then◌else◌, ◌==◌, ⊤}
 use Rattle.std.specs.List.{list_any}
 use Rattle.byte_classes.specs.Class.{class_of}
 use Rattle.byte_classes.specs.Dialect.{IsDialect, Marks}
@@ -11,7 +11,8 @@ use Rattle.row_fields.specs.Reading.{ReadsField, field_of, flaw_place}
 use Rattle.row_fields.specs.Split.{row_from}
 use Rattle.value_types.specs.declared.types.ColumnType.{ColumnType}
 use Rattle.value_types.specs.declared.types.ColumnType.TheVariants.{Varchar}
-use Rattle.value_types.specs.Datum.{Datum}
+use Rattle.value_types.specs.Datum.{Datum, null, text}
+use Rattle.value_types.specs.Null.{is_null}
 use Rattle.value_types.specs.Plain.{is_plain}
 use Rattle.column_store.specs.ChunkView.{ChunkView}
 use Rattle.column_store.specs.RowsOfColumns.{HasNoTexts}
@@ -19,7 +20,7 @@ use Rattle.reject_book.specs.declared.reject.Schema.{Schema}
 use Rattle.reject_book.specs.Casting.{cell_at}
 use Rattle.range_scan.specs.declared.context.Context.{Context}
 use Rattle.range_scan.specs.declared.fast_rows.kinds.FastRows.{FastRows}
-use Rattle.range_scan.specs.declared.fast_rows.kinds.FastRows.TheVariants.{Never, Numbers, Values}
+use Rattle.range_scan.specs.declared.fast_rows.kinds.FastRows.TheVariants.{Never, Numbers, Values, Texts}
 use Rattle.range_scan.specs.NumberRows.{HoldsNumbers}
 
 -- a byte of a plain value of one of the types
@@ -38,19 +39,26 @@ pub record LeavesPlain (p : ℕ → Bool) (d : Marks) : Type 0 where
 -- whether a text begins with such a byte
 abbrev pub begins_plain : (ℕ → Bool) → List ℕ → Bool
 begins_plain p [] = false
-begins_plain p (b ∷ text) = p b
+begins_plain p (b ∷ bytes) = p b
 
--- there are columns, and to a byte of a plain value of theirs neither the dialect nor the text that stands for null gives a meaning
+-- there are columns, and to a byte of a plain value of theirs neither the dialect nor the text that stands for null gives a meaning;
+-- and no quote stands in that text
 pub record HoldsFields (context : Context) : Type 0 where
   pub some : 1 ≤ length context.schema.types
   pub leaves : LeavesPlain (is_plain_in context.schema.types) context.dialect
   pub null : begins_plain (is_plain_in context.schema.types) context.schema.nullstr ≡ false
+  pub quote : IfSome context.dialect.quote (λ q. list_any (λ b. b == q) context.schema.nullstr ≡ false)
 
 -- as what the rows of a file may be tried
 abbrev pub IsKindOf : Context → FastRows → Type 0
 IsKindOf context Never = ⊤
 IsKindOf context Numbers = HoldsNumbers context
 IsKindOf context Values = HoldsFields context × HasNoTexts context.schema.types
+IsKindOf context Texts = HoldsFields context
+
+-- the cell of a text, by whether it stands between quotes
+abbrev pub text_cell : Schema → Bool → List ℕ → Datum
+text_cell schema quoted value = if is_null schema.nullstr schema.allow_quoted_nulls quoted value then null else text value
 
 -- the field between two places, whose cell in a column of this type is this one
 pub record IsField (context : Context) (ty : ColumnType) (bytes : List ℕ) (from end : ℕ) (cell : Datum) : Type 0 where

@@ -5,6 +5,7 @@ mod fields;
 mod kinds;
 mod numbers;
 mod pushing;
+mod texts;
 
 pub use kinds::FastRows;
 pub use pushing::push_fast;

@@ -1,4 +1,4 @@
-//! A row of plain values and empty fields is found and cast by one look at its bytes.
+//! A row of plain values, texts and empty fields is found and cast by one look at its bytes.
 ghost use Rattle.std.specs.Prelude.{◌≡◌, ◌≤◌, ◌<◌, [], false, true, length, IfOk, IfSome, None, Some, slice_get, slice_index};
 ghost use Rattle.byte_classes.specs.Fault.{is_line_end_byte};
 ghost use Rattle.quote_automaton.specs.Rows.{begins_comment};
@@ -6,6 +6,7 @@ ghost use Rattle.value_types.specs.declared.types.ColumnType.{ColumnType};
 ghost use Rattle.range_scan.specs.NumberRows.{IsUnder};
 ghost use Rattle.range_scan.specs.FastRows.{HoldsFields, IsFastRow, IsFieldPushed};
 
+use super::texts::push_text;
 use crate::context::Context;
 use column_store::Chunk;
 use csv_source::NoMemory;
@@ -49,6 +50,9 @@ fn push_field(
     ensures at { IfOk result (λ found. IfSome found (IsFieldPushed context.now ty bytes.now from chunk.old chunk.new)) }
     ensures none { IfOk result (λ found. found ≡ None → IsUnder chunk.old chunk.new) }
 {
+    if ty == ColumnType::Varchar {
+        return push_text(chunk, context, bytes, from);
+    }
     match chunk.push_front(bytes, from)? {
         Some(end) => Ok(Some(end)),
         None => push_empty(chunk, context, bytes, from),

@@ -1,8 +1,9 @@
 //! As what the rows of a file are tried.
-ghost use Rattle.std.specs.Prelude.{◌≡◌, false, true, IfSome};
+ghost use Rattle.std.specs.Prelude.{◌≡◌, ◌==◌, false, true, IfSome};
+ghost use Rattle.std.specs.List.{list_any};
 ghost use Rattle.column_store.specs.RowsOfColumns.{HasNoTexts};
 ghost use Rattle.range_scan.specs.declared.context.Context.{Context};
-ghost use Rattle.range_scan.specs.FastRows.{HoldsFields, IsKindOf, is_plain_in};
+ghost use Rattle.range_scan.specs.FastRows.{HoldsFields, IsKindOf, begins_plain, is_plain_in};
 
 use super::numbers::holds_numbers;
 use crate::context::Context;
@@ -17,6 +18,8 @@ pub enum FastRows {
     Numbers,
     /// As one of plain values and empty fields: such a row is ASCII.
     Values,
+    /// As one of plain values, texts and empty fields.
+    Texts,
 }
 
 /// Whether a byte may stand in a plain value of one of the types.
@@ -41,6 +44,38 @@ fn is_plain_mark(types: &Types, mark: Option<u8>) -> bool
     }
 }
 
+/// Whether a text begins with a byte that may stand in a plain value of one of the types.
+fn is_plain_front(types: &Types, text: &[u8]) -> bool
+    ensures { result ≡ begins_plain (is_plain_in types.now) text.now }
+{
+    if text.is_empty() {
+        return false;
+    }
+    is_plain_in(types, text[0])
+}
+
+/// Whether a byte stands in a text.
+fn has_byte(text: &[u8], byte: u8) -> bool
+    ensures { result ≡ list_any (λ b. b == byte) text.now }
+{
+    for place in 0..text.len() {
+        if text[place] == byte {
+            return true;
+        }
+    }
+    false
+}
+
+/// Whether there is a byte, and it stands in a text.
+fn has_mark(text: &[u8], mark: Option<u8>) -> bool
+    ensures { result ≡ false → IfSome mark (λ m. list_any (λ b. b == m) text.now ≡ false) }
+{
+    match mark {
+        Some(byte) => has_byte(text, byte),
+        None => false,
+    }
+}
+
 /// Whether no column holds texts.
 fn has_no_texts(types: &Types) -> bool
     ensures { result ≡ true → HasNoTexts types.now }
@@ -54,20 +89,19 @@ fn has_no_texts(types: &Types) -> bool
 }
 
 /// Whether rows are tried field by field: there are columns, and no byte of a value of theirs is the delimiter, can open
-/// quotes or a comment, or begins the text that stands for null.
+/// quotes or a comment, or begins the text that stands for null; and no quote stands in that text.
 fn holds_fields(context: &Context) -> bool
     ensures { result ≡ true → HoldsFields context.now }
 {
     let dialect = &context.dialect;
     let types = &context.schema.types;
+    let null = context.schema.nullstr.as_slice();
     if is_plain_in(types, dialect.delim())
         || is_plain_mark(types, dialect.quote())
         || is_plain_mark(types, dialect.comment())
+        || is_plain_front(types, null)
+        || has_mark(null, dialect.quote())
     {
-        return false;
-    }
-    let null = context.schema.nullstr.as_slice();
-    if !null.is_empty() && is_plain_in(types, null[0]) {
         return false;
     }
     types.len() > 0
@@ -81,10 +115,14 @@ impl FastRows {
         if holds_numbers(context) {
             return FastRows::Numbers;
         }
-        if has_no_texts(&context.schema.types) && holds_fields(context) {
-            return FastRows::Values;
+        if !holds_fields(context) {
+            return FastRows::Never;
         }
-        FastRows::Never
+        if has_no_texts(&context.schema.types) {
+            FastRows::Values
+        } else {
+            FastRows::Texts
+        }
     }
 
     /// Whether a row that is found so is ASCII, so that nobody has to look whether it is UTF-8.

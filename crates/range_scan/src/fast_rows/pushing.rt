@@ -68,6 +68,6 @@ pub fn push_fast(
     match known.rows {
         FastRows::Never => Ok(None),
         FastRows::Numbers => push_numbers(chunk, context, bytes, at),
-        FastRows::Values => push_row(chunk, context, bytes, at, known),
+        FastRows::Values | FastRows::Texts => push_row(chunk, context, bytes, at, known),
     }
 }

@@ -1,20 +1,15 @@
-use Rattle.std.proofs.Common.{◌≡◌, ◌<◌, ◌∙◌, ℕ, Option, false, sym, ap, get_or, subst, arith, length, rules}
-use Rattle.std.specs.Prelude.{IfSome}
+use Rattle.std.proofs.Common.{◌≡◌, ◌<◌, ◌∙◌, ℕ, List, Option, false, sym, ap, subst, arith, length, rules}
+use Rattle.std.specs.Prelude.{◌==◌, IfSome}
+use Rattle.std.specs.List.{list_any}
 use Rattle.std.proofs.lemmas.Bool.{ltb-true}
 use Rattle.range_scan.specs.FastRows.{begins_plain, is_plain_in}
-use Rattle.range_scan.proofs.PlainTests.{begins_none, begins_other, none_is_cr, none_is_lf}
-use Rattle.range_scan.proofs.fast_rows.kinds.holds_fields.Goals.{else-not-is_empty-via-then-not-is_empty+else-is_plain_in-2, else-not-is_empty-via-else-not-is_empty}
+use Rattle.range_scan.proofs.PlainTests.{none_is_cr, none_is_lf}
 use Rattle.range_scan.proofs.fast_rows.kinds.holds_fields.Goals as goal
 
 pub returns : goal.returns
 returns c = λ some.
     let context = c.args.context.now in
     let types = context.schema.types in
-    let null : begins_plain (is_plain_in types) context.schema.nullstr ≡ false = elim c.else-not-is_empty.branch [
-      | else-not-is_empty-via-then-not-is_empty+else-is_plain_in-2 w ↦ begins_other (is_plain_in types) context.schema.nullstr
-          (ap (λ t. is_plain_in types (get_or t 0 0)) (sym c.as_slice-null.ensures) ∙ sym w.is_plain_in-then-not-is_empty.ensures ∙ w.if-is_plain_in-2.false)
-      | else-not-is_empty-via-else-not-is_empty w ↦ begins_none (is_plain_in types) context.schema.nullstr (search rules)
-    ] in
     let count : 0 < length types = subst (λ n. 0 < n) c.len.ensures (ltb-true 0 c.len.result some) in
     record {
       some = omega (arith, count);
@@ -26,5 +21,7 @@ returns c = λ some.
         quote = subst (λ (o : Option ℕ). IfSome o (λ q. is_plain_in types q ≡ false)) c.quote.ensures.value (c.is_plain_mark.ensures c.if-is_plain_mark.false);
         comment = subst (λ (o : Option ℕ). IfSome o (λ q. is_plain_in types q ≡ false)) c.comment.ensures (c.is_plain_mark-else-is_plain_mark.ensures c.if-is_plain_mark-2.false);
       };
-      null = null;
+      null = ap (begins_plain (is_plain_in types)) (sym c.as_slice-null.ensures) ∙ sym c.is_plain_front.ensures ∙ c.if-is_plain_front.false;
+      quote = subst (λ (null : List ℕ). IfSome context.dialect.quote (λ q. list_any (λ b. b == q) null ≡ false)) c.as_slice-null.ensures
+          (subst (λ (o : Option ℕ). IfSome o (λ q. list_any (λ b. b == q) c.as_slice-null.result.now ≡ false)) c.quote-else-is_plain_front.ensures.value (c.has_mark.ensures c.if-has_mark.false));
     }
