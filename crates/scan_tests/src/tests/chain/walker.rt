@@ -20,7 +20,7 @@ impl Plan for WorkedPlan {
     ghost plan = { λ _. worked_plan };
 }
 
-fn mark(range: u32, opened: State, end: State) -> Mark
+pub fn mark(range: u32, opened: State, end: State) -> Mark
     ensures { result ≡ record { range = range; opened = opened; end = end; bad = false } }
 {
     Mark {

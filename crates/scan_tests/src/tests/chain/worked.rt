@@ -8,7 +8,7 @@ use quote_automaton::State;
 use std::process::Abort;
 use std::test::Fail;
 
-fn moved(range: u32, state: State, end: State) -> Advance {
+pub fn moved(range: u32, state: State, end: State) -> Advance {
     Advance::Moved(Entry {
         range,
         state,
