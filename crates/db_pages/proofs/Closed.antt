@@ -1,10 +1,10 @@
 -- The pages of rows, once the leaf under way has ended.
-use Rattle.std.proofs.Common.{◌≡◌, ℕ, ◌+◌, ◌*◌, ◌≤◌, ◌||◌, ◌==◌, Bool, List, [], ◌∷◌, ◌++◌, length, refl, sym, ◌∙◌, ap, arith, length-append}
+use Rattle.std.proofs.Common.{◌≡◌, ℕ, ◌+◌, ◌*◌, ◌≤◌, ◌||◌, ◌==◌, Bool, List, [], ◌∷◌, ◌++◌, length, refl, ◌∙◌, ap, arith, length-append}
 use Rattle.std.proofs.lemmas.Bool.Decides.{nat_tests}
 use Rattle.db_records.specs.Page.{joined, leaf_page}
 use Rattle.db_records.proofs.Pages.{length-leaf_page}
 use Rattle.db_pages.specs.declared.child.Child.{Child}
-use Rattle.db_pages.specs.Laid.{Laid, ended, next_place}
+use Rattle.db_pages.specs.Laid.{next_place}
 use Rattle.db_pages.specs.Grown.{Filled, closed, holds_at}
 
 same-test : (a b c d : ℕ) → c ≡ a + 4096 → d ≡ b + 4096 → (c == d) ≡ (a == b)

@@ -1,3 +1,5 @@
+pub mod Appends
 pub mod Cuts
 pub mod Closed
+pub mod Chains
 mod Worked

@@ -6,9 +6,13 @@
 //! of tables, and the first page in front. What is written is a function of the rows, the names and the definitions alone.
 #![tactic(auto)]
 
+mod cells;
+mod chain;
 mod child;
 mod image;
 mod leaves;
+mod number;
+mod packing;
 mod table_pages;
 mod tree;
 
