@@ -1,5 +1,5 @@
 -- Cells one behind another.
-use Rattle.std.proofs.Common.{◌≡◌, ℕ, ◌+◌, ◌-◌, ◌*◌, ◌/◌, ◌%◌, ◌≤◌, ◌==◌, false, List, [], ◌∷◌, ◌++◌, length, take, drop, replicate, refl, sym, ◌∙◌, ap, arith, length-append, length-drop, length-take-le, take-append-drop}
+use Rattle.std.proofs.Common.{◌≡◌, ℕ, ◌+◌, ◌-◌, ◌*◌, ◌/◌, ◌%◌, ◌≤◌, ◌==◌, false, List, [], ◌∷◌, ◌++◌, length, take, drop, replicate, refl, sym, ◌∙◌, ap, arith, append-nil, append_assoc, length-append, length-drop, length-take-le, take-append-drop}
 use Rattle.std.proofs.lemmas.List.{take_all, take-append-le, drop-append-le}
 use Rattle.std.proofs.lemmas.Bool.Decides.{nat_tests}
 use Rattle.db_records.specs.Page.{joined, places}
@@ -77,3 +77,23 @@ pub head_cut : (kind : ℕ) (sizes bytes : List ℕ) (cells : List (List ℕ)) �
 head_cut kind sizes bytes cells is fits =
     let m = measured sizes bytes cells is fits in
     ap (λ n. page_head kind n (length bytes)) m.0 ∙ ap (λ n. page_head kind (length cells) n) m.1
+
+-- the bytes and sizes of cells, one of them appended
+pub cells_more : (sizes bytes sizes′ bytes′ : List ℕ) (cells : List (List ℕ)) (cell : List ℕ) (size : ℕ) → cut sizes bytes ≡ cells → Fits sizes bytes →
+    size ≡ length cell → sizes′ ≡ sizes ++ size ∷ [] → bytes′ ≡ bytes ++ cell → cut sizes′ bytes′ ≡ cells ++ cell ∷ []
+cells_more sizes bytes sizes′ bytes′ cells cell size is fits one two three =
+    ap (λ xs. cut xs bytes′) two ∙ ap (λ n. cut (sizes ++ n ∷ []) bytes′) one ∙ ap (λ xs. cut (sizes ++ length cell ∷ []) xs) three
+    ∙ cut_more sizes bytes cell fits.whole ∙ ap (λ xs. xs ++ cell ∷ []) is
+
+pub fits_with : (sizes bytes sizes′ bytes′ : List ℕ) (cells : List (List ℕ)) (cell : List ℕ) (size : ℕ) → cut sizes bytes ≡ cells → Fits sizes bytes →
+    size ≡ length cell → sizes′ ≡ sizes ++ size ∷ [] → bytes′ ≡ bytes ++ cell → 8 + 2 * (length cells + 1) + length (joined cells) + length cell ≤ 4096 → Fits sizes′ bytes′
+fits_with sizes bytes sizes′ bytes′ cells cell size is fits one two three room =
+    let more = fits_more sizes bytes cells cell is fits room in
+    record {
+      whole = ap total two ∙ ap (λ n. total (sizes ++ n ∷ [])) one ∙ more.whole ∙ ap length (sym three);
+      room = omega (arith, ap length two, ap length three, length-append sizes (size ∷ []), length-append sizes (length cell ∷ []), more.room);
+    }
+
+pub joined_more : (cells : List (List ℕ)) (cell : List ℕ) → joined (cells ++ cell ∷ []) ≡ joined cells ++ cell
+joined_more [] cell = append-nil cell
+joined_more (first ∷ cells) cell = ap (λ xs. first ++ xs) (joined_more cells cell) ∙ sym (append_assoc first (joined cells) cell)

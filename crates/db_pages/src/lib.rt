@@ -11,6 +11,7 @@ mod chain;
 mod child;
 mod image;
 mod leaves;
+mod levels;
 mod number;
 mod packing;
 mod table_pages;
