@@ -7,6 +7,7 @@ ghost use Rattle.db_pages.specs.Laid.{ended, finished, next_place, roomy, with_l
 use crate::cells::Cells;
 use crate::chain::{MOST_LOCAL, local_len, long_cell_len, push_chain};
 use crate::child::Child;
+use crate::closed_leaves::ClosedLeaves;
 use crate::number::PAGE;
 use csv_source::NoMemory;
 use db_records::cell_len;
@@ -139,6 +140,19 @@ impl Leaves {
             return Ok(());
         }
         self.finish_leaf()
+    }
+
+    /// The pages and the leaves among them, once the leaf under way has ended.
+    pub(crate) fn close(self) -> Result<ClosedLeaves, NoMemory>
+        ensures { IfOk result (λ pages. pages ≡ closed self) }
+    {
+        let mut leaves = self;
+        leaves.end()?;
+        Ok(ClosedLeaves {
+            base: leaves.base,
+            pages: leaves.pages,
+            leaves: leaves.leaves,
+        })
     }
 
     /// Whether the pages, once the leaf under way has ended, hold behind so many others: they were written there, or no record

@@ -9,6 +9,7 @@
 mod cells;
 mod chain;
 mod child;
+mod closed_leaves;
 mod image;
 mod leaves;
 mod levels;
