@@ -1,4 +1,4 @@
-use Rattle.std.proofs.Common.{◌≡◌, ◌+◌, map, length, ap, ◌∙◌}
+use Rattle.std.proofs.Common.{◌+◌, map, length, ap, ◌∙◌}
 use Rattle.std.specs.Prelude.{sum}
 use Rattle.file_list.specs.declared.batch.FileBook.{FileBook}
 use Rattle.reject_book.specs.BookView.{BookView}
