@@ -4,7 +4,7 @@ ghost use Rattle.std.specs.Io.KnownBytes.{IsAtEnd};
 ghost use Rattle.csv_source.specs.Causes.{Rose};
 ghost use Rattle.load_crew.specs.GroupRead.{IsGroupRead};
 ghost use Rattle.load_crew.specs.Task.{task, IsTask};
-ghost use Rattle.window_load.specs.Window.{reach, behind_front, GoesOn, IsFilled};
+ghost use Rattle.window_load.specs.Window.{reach, behind_front, fill_limit, GoesOn, IsFilled};
 ghost use Rattle.window_load.specs.declared.stop.LoadStop.TheVariants as stops;
 
 use crate::crew::{GroupReader, GroupTurn};
@@ -31,6 +31,7 @@ impl<'a, R: Threads + Sync, G: Gate> GroupReader<'a, R, G> {
         ensures filled { IfOk result.1 (λ _. IsFilled count next.new) }
         ensures too_large { result.1 ≡ Err stops.TooLarge → reach next.new ≡ next.new.most + 1 }
         ensures moved { GoesOn (S.left source.old) (S.left source.new) 0 next.old next.new }
+        ensures within { length next.new.kept ≤ fill_limit count (length next.old.kept) }
         ensures at_end { next.new.ended ≡ true → IsAtEnd (S.left source.new) }
         ensures held { S.held source.new ≡ S.held source.old }
         ensures count { S.faults source.old ≤ S.faults source.new }
@@ -64,6 +65,7 @@ impl<'a, R: Threads + Sync, G: Gate> GroupReader<'a, R, G> {
         ensures filled { IfOk result (λ _. IsFilled count window.new) }
         ensures too_large { result ≡ Err stops.TooLarge → reach window.new ≡ window.new.most + 1 }
         ensures moved { GoesOn (S.left source.old) (S.left source.new) (turn.now.group.to - 1) window.old window.new }
+        ensures within { length window.new.kept ≤ fill_limit count (length (behind_front (turn.now.group.to - 1) window.old).kept) }
         ensures at_end { window.new.ended ≡ true → IsAtEnd (S.left source.new) }
         ensures held { S.held source.new ≡ S.held source.old }
         ensures count { S.faults source.old ≤ S.faults source.new }

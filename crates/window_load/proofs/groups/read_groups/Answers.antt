@@ -6,7 +6,7 @@ use Rattle.window_load.specs.declared.stop.LoadStop.TheVariants as stops
 use Rattle.window_load.specs.Groups.{group_reach}
 use Rattle.window_load.specs.Window.{IsFilled, behind_front, reach}
 use Rattle.window_load.proofs.GoesOn.{goes_on_and_reaches, still_read}
-use Rattle.window_load.proofs.GroupsRead.{read_none, read_more, read_all, read_stopped, in_window, are_types, is_keep, read_in_next}
+use Rattle.window_load.proofs.GroupsRead.{read_none, read_more, read_all, read_stopped, some_reject, in_window, are_types, is_keep, read_in_next}
 use Rattle.window_load.proofs.GroupWindows.{group_width}
 use Rattle.window_load.proofs.GroupTasks.{is_task, numbers_within}
 use Rattle.window_load.proofs.ReachedOn.{reaches_twice}
@@ -64,6 +64,15 @@ pub returns-in_err-read-clause-failed : goal.returns-in_err-read-clause-failed
 returns-in_err-read-clause-failed g c = λ e.
     let failed : c.read_ahead.result ≡ Err stops.Failed = search rules in
     omega (arith, c.read_ahead.ensures.failed failed, c.loop-at.invariant.5)
+
+pub first_reject-requires : goal.first_reject-requires
+first_reject-requires g c =
+    let there : c.loop-at.at < length c.loop-at.window.kept = omega (arith, c.loop-at-test.true, c.len.ensures) in
+    let is = in_window c.args.reader.now.context.now c.loop-at.window.kept c.loop-at.window.kept c.loop-at.window.base c.loop-at.window.base c.group_in.result c.loop-at.at c.len-in-loop-at.result
+    c.args.course.range_size c.loop-at.number c.loop-at.joined.end c.args.course.stop c.in_ok-read.read refl refl c.group_in.ensures c.len-in-loop-at.ensures c.in_ok-read.ensures.ok in
+    record {
+      some = some_reject c.args.reader.now.context.now c.args.course c.requires.some (g.S.Source.left c.args.source.now) c.args.window.now (g.S.Source.left c.loop-at.source) c.loop-at.window c.loop-at.number c.loop-at.at c.loop-at.joined c.loop-at.invariant.0 c.loop-at.invariant.1 there c.in_ok-read.read is c.if-read.true c.requires.keep;
+    }
 
 pub returns-in_err-reject-clause-moved : goal.returns-in_err-reject-clause-moved
 returns-in_err-reject-clause-moved g c =
