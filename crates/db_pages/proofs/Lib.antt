@@ -1,6 +1,10 @@
 pub mod Appends
 pub mod Cuts
 pub mod Closed
+pub mod Sizes
+pub mod Follows
+pub mod Counted
+pub mod GroupsJoin
 pub mod Images
 pub mod Joined
 pub mod LockPage

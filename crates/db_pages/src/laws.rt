@@ -1,7 +1,13 @@
 //! Laws over the definitions: what is joined is what one writer would have written.
-ghost use Rattle.db_pages.specs.Laws.{RowsFollow};
+ghost use Rattle.db_pages.specs.Laws.{GroupsJoin, RowsFollow};
 
 /// Rows that are laid out behind others are laid out with them.
 pub fn rows_follow()
     ensures { RowsFollow }
+{}
+
+/// Groups of rows that are written apart and joined are the pages of all rows, where all but the last are whole blocks and each
+/// holds where it stands.
+pub fn groups_join()
+    ensures { GroupsJoin }
 {}
