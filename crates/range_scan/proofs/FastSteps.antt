@@ -8,7 +8,7 @@ use Rattle.value_types.specs.declared.types.ColumnType.{ColumnType}
 use Rattle.value_types.specs.Datum.{Datum}
 use Rattle.column_store.specs.ChunkView.{ChunkView}
 use Rattle.range_scan.specs.declared.context.Context.{Context}
-use Rattle.range_scan.specs.NumberRows.{IsUnder}
+use Rattle.range_scan.specs.FastRows.{IsUnder}
 use Rattle.range_scan.specs.FastRows.{IsFastRow, IsFieldPushed}
 use Rattle.range_scan.proofs.FastFields.{delim_stops, last_one, line_end_stops, one_more, HasFields}
 

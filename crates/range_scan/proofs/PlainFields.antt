@@ -23,7 +23,7 @@ use Rattle.value_types.specs.Plain.{is_plain, IsPlainAt}
 use Rattle.reject_book.specs.declared.reject.Schema.{Schema}
 use Rattle.reject_book.specs.Casting.{cell_at}
 use Rattle.range_scan.specs.declared.context.Context.{Context}
-use Rattle.range_scan.specs.FastRows.{begins_plain, is_plain_in, HoldsFields, IsField, LeavesPlain}
+use Rattle.range_scan.specs.FastRows.{begins_plain, is_plain_in, HoldsPlain, IsField, LeavesPlain}
 use Rattle.range_scan.proofs.FastFields.{bare_field_of, reads_ordinary}
 
 -- ---- a plain byte
@@ -128,7 +128,7 @@ module _ (ty : ColumnType) (bytes : List ℕ) (from end : ℕ) (at : IsPlainAt t
     by_option None is = absurd (true≢false (sym is))
     by_option (Some cell) is = (cell, refl)
 
-  pub plain_field : (context : Context) → HoldsFields context → (column : ℕ) → slice_get context.schema.types column ≡ Some ty → (cell : Datum) → typed_cell raw ty ≡ Some cell →
+  pub plain_field : (context : Context) → HoldsPlain context → (column : ℕ) → slice_get context.schema.types column ≡ Some ty → (cell : Datum) → typed_cell raw ty ≡ Some cell →
       is_special false (class_of context.dialect (get_or bytes end 0)) ≡ true → IsField context ty bytes from end cell
   plain_field context holds column next cell value stops =
       let p : ℕ → Bool = is_plain_in context.schema.types in

@@ -1,5 +1,5 @@
 -- Rows whose fields are found and cast by one look, each behind the last one's delimiter.
-use Rattle.std.specs.Prelude.{◌≡◌, ◌≢◌, ◌<◌, ◌≤◌, ℕ, Bool, true, false, List, [], ◌∷◌, ◌++◌, length, map, IfSome, Some, None, Option, slice_index, slice_range, if◌then◌else◌, ◌==◌, ⊤}
+use Rattle.std.specs.Prelude.{◌≡◌, ◌≢◌, ◌<◌, ◌≤◌, ℕ, Bool, true, false, List, [], ◌∷◌, ◌++◌, length, map, All, IfSome, Some, None, Option, slice_index, slice_range, if◌then◌else◌, ◌==◌, ⊤}
 use Rattle.std.specs.List.{list_any}
 use Rattle.byte_classes.specs.Class.{class_of}
 use Rattle.byte_classes.specs.Dialect.{IsDialect, Marks}
@@ -10,10 +10,13 @@ use Rattle.row_fields.specs.Fields.{Field, fields, flaw}
 use Rattle.row_fields.specs.Reading.{ReadsField, field_of, flaw_place}
 use Rattle.row_fields.specs.Split.{row_from}
 use Rattle.value_types.specs.declared.types.ColumnType.{ColumnType}
-use Rattle.value_types.specs.declared.types.ColumnType.TheVariants.{Varchar}
-use Rattle.value_types.specs.Datum.{Datum, null, text}
+use Rattle.value_types.specs.declared.types.ColumnType.TheVariants.{Bigint, Varchar}
+use Rattle.value_types.specs.declared.fronts.number.FrontNumber.{FrontNumber}
+use Rattle.value_types.specs.declared.types.Value.TheVariants.{Int}
+use Rattle.value_types.specs.Datum.{Datum, null, text, typed}
 use Rattle.value_types.specs.Null.{is_null}
-use Rattle.value_types.specs.Plain.{is_plain}
+use Rattle.value_types.specs.OfType.{typed_cell}
+use Rattle.value_types.specs.Plain.{is_plain, IsPlainAt}
 use Rattle.column_store.specs.ChunkView.{ChunkView}
 use Rattle.column_store.specs.RowsOfColumns.{HasNoTexts}
 use Rattle.reject_book.specs.declared.reject.Schema.{Schema}
@@ -21,7 +24,6 @@ use Rattle.reject_book.specs.Casting.{cell_at}
 use Rattle.range_scan.specs.declared.context.Context.{Context}
 use Rattle.range_scan.specs.declared.fast_rows.kinds.FastRows.{FastRows}
 use Rattle.range_scan.specs.declared.fast_rows.kinds.FastRows.TheVariants.{Never, Numbers, Values, Texts}
-use Rattle.range_scan.specs.NumberRows.{HoldsNumbers}
 
 -- a byte of a plain value of one of the types
 abbrev pub is_plain_in : List ColumnType → ℕ → Bool
@@ -41,12 +43,20 @@ abbrev pub begins_plain : (ℕ → Bool) → List ℕ → Bool
 begins_plain p [] = false
 begins_plain p (b ∷ bytes) = p b
 
--- there are columns, and to a byte of a plain value of theirs neither the dialect nor the text that stands for null gives a meaning;
--- and no quote stands in that text
-pub record HoldsFields (context : Context) : Type 0 where
+-- there are columns, and to a byte of a plain value of theirs neither the dialect nor the text that stands for null gives a meaning
+pub record HoldsPlain (context : Context) : Type 0 where
   pub some : 1 ≤ length context.schema.types
   pub leaves : LeavesPlain (is_plain_in context.schema.types) context.dialect
   pub null : begins_plain (is_plain_in context.schema.types) context.schema.nullstr ≡ false
+
+-- and all columns are BIGINT
+pub record HoldsNumbers (context : Context) : Type 0 where
+  pub plain : HoldsPlain context
+  pub types : All (λ ty. ty ≡ Bigint) context.schema.types
+
+-- and no quote stands in the text that stands for null
+pub record HoldsFields (context : Context) : Type 0 where
+  pub plain : HoldsPlain context
   pub quote : IfSome context.dialect.quote (λ q. list_any (λ b. b == q) context.schema.nullstr ≡ false)
 
 -- as what the rows of a file may be tried
@@ -59,6 +69,11 @@ IsKindOf context Texts = HoldsFields context
 -- the cell of a text, by whether it stands between quotes
 abbrev pub text_cell : Schema → Bool → List ℕ → Datum
 text_cell schema quoted value = if is_null schema.nullstr schema.allow_quoted_nulls quoted value then null else text value
+
+-- a plain number stands from a place on, and bytes follow it
+pub record IsNumberAt (bytes : List ℕ) (from : ℕ) (front : FrontNumber) : Type 0 where
+  pub at : IsPlainAt Bigint bytes from front.end
+  pub value : typed_cell (slice_range bytes from front.end) Bigint ≡ Some (typed (Int front.number))
 
 -- the field between two places, whose cell in a column of this type is this one
 pub record IsField (context : Context) (ty : ColumnType) (bytes : List ℕ) (from end : ℕ) (cell : Datum) : Type 0 where
@@ -75,6 +90,10 @@ pub record IsFieldPushed (context : Context) (ty : ColumnType) (bytes : List ℕ
   pub pushed : new ≡ record old { unfinished = old.unfinished ++ cell ∷ [] }
   pub is : is_special false (class_of context.dialect (slice_index bytes end)) ≡ true → IsField context ty bytes from end cell
   pub ascii : ty ≢ Varchar → (k : ℕ) → from ≤ k → k < end → slice_index bytes k < 128
+
+-- only the row under way has changed
+abbrev pub IsUnder : ChunkView → ChunkView → Type 0
+IsUnder old new = new ≡ record old { unfinished = new.unfinished }
 
 -- the cells of fields in the first columns
 abbrev pub cells_in : Schema → List ColumnType → List Field → List (Option Datum)

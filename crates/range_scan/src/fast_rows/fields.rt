@@ -3,8 +3,7 @@ ghost use Rattle.std.specs.Prelude.{◌≡◌, ◌≤◌, ◌<◌, [], false, tr
 ghost use Rattle.byte_classes.specs.Fault.{is_line_end_byte};
 ghost use Rattle.quote_automaton.specs.Rows.{begins_comment};
 ghost use Rattle.value_types.specs.declared.types.ColumnType.{ColumnType};
-ghost use Rattle.range_scan.specs.NumberRows.{IsUnder};
-ghost use Rattle.range_scan.specs.FastRows.{HoldsFields, IsFastRow, IsFieldPushed};
+ghost use Rattle.range_scan.specs.FastRows.{HoldsFields, IsFastRow, IsFieldPushed, IsUnder};
 
 use super::texts::push_text;
 use crate::context::Context;
@@ -74,7 +73,9 @@ fn row_end(bytes: &[u8], end: usize, is_last: bool) -> Option<usize>
 }
 
 /// Appends the cells of the row at the front of the bytes as its fields are found, and answers where it ends; none where it
-/// has to be read field by field. The row stays under way.
+/// has to be read field by field. The row stays under way. It isn't inlined, so that it takes no register from the loop of
+/// plain numbers.
+#[inline(never)]
 pub fn push_fields(
     chunk: &mut Chunk,
     context: &Context,

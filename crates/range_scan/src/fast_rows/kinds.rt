@@ -1,11 +1,11 @@
 //! As what the rows of a file are tried.
-ghost use Rattle.std.specs.Prelude.{◌≡◌, ◌==◌, false, true, IfSome};
+ghost use Rattle.std.specs.Prelude.{◌≡◌, ◌==◌, false, true, All, IfSome, IsTrue};
 ghost use Rattle.std.specs.List.{list_any};
 ghost use Rattle.column_store.specs.RowsOfColumns.{HasNoTexts};
 ghost use Rattle.range_scan.specs.declared.context.Context.{Context};
-ghost use Rattle.range_scan.specs.FastRows.{HoldsFields, IsKindOf, begins_plain, is_plain_in};
+ghost use Rattle.value_types.specs.declared.types.ColumnType.TheVariants.{Bigint};
+ghost use Rattle.range_scan.specs.FastRows.{HoldsPlain, IsKindOf, begins_plain, is_plain_in};
 
-use super::numbers::holds_numbers;
 use crate::context::Context;
 use value_types::{ColumnType, Types, is_plain};
 
@@ -76,6 +76,18 @@ fn has_mark(text: &[u8], mark: Option<u8>) -> bool
     }
 }
 
+/// Whether all columns are BIGINT.
+fn all_bigint(types: &Types) -> bool
+    ensures { IsTrue result → All (λ ty. ty ≡ Bigint) types.now }
+{
+    for column in 0..types.len() {
+        if types.get(column) != ColumnType::Bigint {
+            return false;
+        }
+    }
+    true
+}
+
 /// Whether no column holds texts.
 fn has_no_texts(types: &Types) -> bool
     ensures { result ≡ true → HasNoTexts types.now }
@@ -88,23 +100,28 @@ fn has_no_texts(types: &Types) -> bool
     true
 }
 
-/// Whether rows are tried field by field: there are columns, and no byte of a value of theirs is the delimiter, can open
-/// quotes or a comment, or begins the text that stands for null; and no quote stands in that text.
-fn holds_fields(context: &Context) -> bool
-    ensures { result ≡ true → HoldsFields context.now }
+/// Whether rows are tried at all: there are columns, and no byte of a plain value of theirs is the delimiter, can open quotes
+/// or a comment, or begins the text that stands for null.
+fn holds_plain(context: &Context) -> bool
+    ensures { result ≡ true → HoldsPlain context.now }
 {
     let dialect = &context.dialect;
     let types = &context.schema.types;
-    let null = context.schema.nullstr.as_slice();
     if is_plain_in(types, dialect.delim())
         || is_plain_mark(types, dialect.quote())
         || is_plain_mark(types, dialect.comment())
-        || is_plain_front(types, null)
-        || has_mark(null, dialect.quote())
+        || is_plain_front(types, context.schema.nullstr.as_slice())
     {
         return false;
     }
     types.len() > 0
+}
+
+/// Whether no quote stands in the text that stands for null, so that no text with a quote inside is null.
+fn holds_quotes(context: &Context) -> bool
+    ensures { result ≡ true → IfSome context.now.dialect.quote (λ q. list_any (λ b. b == q) context.now.schema.nullstr ≡ false) }
+{
+    !has_mark(context.schema.nullstr.as_slice(), context.dialect.quote())
 }
 
 impl FastRows {
@@ -112,13 +129,17 @@ impl FastRows {
     pub fn of(context: &Context) -> FastRows
         ensures { IsKindOf context.now result }
     {
-        if holds_numbers(context) {
-            return FastRows::Numbers;
-        }
-        if !holds_fields(context) {
+        if !holds_plain(context) {
             return FastRows::Never;
         }
-        if has_no_texts(&context.schema.types) {
+        let types = &context.schema.types;
+        if all_bigint(types) {
+            return FastRows::Numbers;
+        }
+        if !holds_quotes(context) {
+            return FastRows::Never;
+        }
+        if has_no_texts(types) {
             FastRows::Values
         } else {
             FastRows::Texts

@@ -4,8 +4,7 @@ ghost use Rattle.byte_classes.specs.Dialect.{is_byte};
 ghost use Rattle.byte_classes.specs.Places.{first_place};
 ghost use Rattle.quote_automaton.specs.Automaton.{IsDoubling};
 ghost use Rattle.value_types.specs.declared.types.ColumnType.TheVariants.{Varchar};
-ghost use Rattle.range_scan.specs.FastRows.{HoldsFields, IsFieldPushed, text_cell};
-ghost use Rattle.range_scan.specs.NumberRows.{IsUnder};
+ghost use Rattle.range_scan.specs.FastRows.{HoldsFields, IsFieldPushed, IsUnder, text_cell};
 
 use crate::context::Context;
 use byte_classes::{Dialect, next_byte, next_special};

@@ -30,6 +30,6 @@ returns-in-Some-clause-at c =
       high = at.high;
       cell = value.0;
       pushed = ok ∙ (λ i. record old { unfinished = old.unfinished ++ option_to_list (cell i) });
-      is = plain_field ty bytes from end at context c.requires.holds column (ap (λ tys. slice_get tys column) (sym c.requires.types) ∙ c.requires.next) value.0 value.1;
+      is = plain_field ty bytes from end at context c.requires.holds.plain column (ap (λ tys. slice_get tys column) (sym c.requires.types) ∙ c.requires.next) value.0 value.1;
       ascii = λ other. plain_is_ascii ty bytes from end at;
     }

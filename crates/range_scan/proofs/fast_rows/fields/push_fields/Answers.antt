@@ -29,7 +29,7 @@ returns-then-bytes-end-clause-ok c =
     let next : slice_get context.schema.types (length old.unfinished) ≡ Some ty = ap (slice_get context.schema.types) so.count ∙ c.get.ensures in
     let found : IsFieldPushed context ty bytes from old new end = subst (λ (o : Option ℕ). IfSome o (IsFieldPushed context ty bytes from old new)) c.in-Some.is c.in_ok-end.ensures.at in
     on_some c.row_end.result (λ len ends. subst (IsFastRow context bytes new.unfinished) (sym ends.0)
-    (step_last context c.requires.holds.leaves.sound bytes from c.args.chunk.now old new so.under ty next end found so.fields ends.2 c.requires.no_comment)) c.row_end.ensures
+    (step_last context c.requires.holds.plain.leaves.sound bytes from c.args.chunk.now old new so.under ty next end found so.fields ends.2 c.requires.no_comment)) c.row_end.ensures
 
 pub loop-column-preserved : goal.loop-column-preserved
 loop-column-preserved c =
@@ -43,7 +43,7 @@ loop-column-preserved c =
     let ty : ColumnType = c.get.result in
     let next : slice_get context.schema.types (length old.unfinished) ≡ Some ty = ap (slice_get context.schema.types) so.count ∙ c.get.ensures in
     let found : IsFieldPushed context ty bytes from old new end = subst (λ (o : Option ℕ). IfSome o (IsFieldPushed context ty bytes from old new)) c.in-Some.is c.in_ok-end.ensures.at in
-    let sound = c.requires.holds.leaves.sound in
+    let sound = c.requires.holds.plain.leaves.sound in
     let first : ChunkView = c.args.chunk.now in
     record {
       under = still_under context sound bytes from first old new so.under ty next end found so.fields;

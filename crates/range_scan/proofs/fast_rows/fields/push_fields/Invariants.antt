@@ -1,5 +1,5 @@
 use Rattle.std.proofs.Common.{◌≡◌, ◌≤◌, length}
-use Rattle.range_scan.specs.NumberRows.{IsUnder}
+use Rattle.range_scan.specs.FastRows.{IsUnder}
 use Rattle.range_scan.proofs.FastFields.{HasFields}
 use Rattle.range_scan.proofs.fast_rows.fields.push_fields.Given as goal
 

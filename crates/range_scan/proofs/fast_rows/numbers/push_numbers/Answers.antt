@@ -1,28 +1,74 @@
-use Rattle.std.proofs.Common.{◌≡◌, ◌-◌, List, ℕ, drop, take, length, ap, subst, ◌∙◌}
-use Rattle.std.specs.Prelude.{Option, IfSome}
-use Rattle.std.proofs.lemmas.List.{take_rest}
-use Rattle.value_types.specs.Datum.{Datum}
-use Rattle.range_scan.specs.NumberRows.{IsNumberRow}
-use Rattle.range_scan.proofs.NumberCells.{ends, high, row_pushed}
-use Rattle.range_scan.proofs.PushedRows.{finished}
+use Rattle.std.proofs.Common.{◌≡◌, ◌<◌, ◌∷◌, ◌++◌, List, [], Some, length, refl, sym, ap, subst, ◌∙◌, arith, rules, w64}
+use Rattle.std.specs.Prelude.{slice_get}
+use Rattle.std.proofs.lemmas.Int.{to_z-of_z}
+use Rattle.value_types.specs.declared.types.ColumnType.TheVariants.{Bigint}
+use Rattle.value_types.specs.Datum.{Datum, typed}
+use Rattle.value_types.specs.declared.types.Value.TheVariants.{Int}
+use Rattle.column_store.specs.ChunkView.{ChunkView}
+use Rattle.range_scan.specs.FastRows.{IsFieldPushed}
+use Rattle.range_scan.proofs.FastFields.{HasFields, has_no_field}
+use Rattle.range_scan.proofs.FastSteps.{one_longer, step_last, step_more, still_under}
+use Rattle.range_scan.proofs.NumberSteps.{number_pushed, takes_next, takes_number}
 use Rattle.range_scan.proofs.fast_rows.numbers.push_numbers.Goals as goal
 
-pub returns-then-len-context-clause-ok : goal.returns-then-len-context-clause-ok
-returns-then-len-context-clause-ok c =
+pub loop-column-init : goal.loop-column-init
+loop-column-init c = record {
+  under = refl;
+  count = omega (arith, ap length c.requires.whole);
+  within = omega arith;
+  fields = subst (HasFields c.args.context.now c.args.bytes.now 0) (sym {A = List Datum} c.requires.whole) (has_no_field c.args.context.now c.args.bytes.now);
+}
+
+pub push_bigint-requires : goal.push_bigint-requires
+push_bigint-requires c = record {
+  next = takes_next c.args.context.now c.requires.holds c.args.chunk.now c.loop-column.chunk c.requires.types c.loop-column.invariant.under
+      (omega (arith, c.loop-column.invariant.count, c.columns-column-end.ensures, c.loop-column-test.true));
+}
+
+pub loop-column-preserved : goal.loop-column-preserved
+loop-column-preserved c =
     let context = c.args.context.now in
     let bytes = c.args.bytes.now in
-    let at = c.args.at in
-    let len = c.in-Some.len in
-    let old = c.args.chunk.now in
-    let under = c.push_fields.new.chunk in
-    let cells : List Datum = under.unfinished in
-    let row : IsNumberRow context (take (length bytes - at) (drop at bytes)) cells len =
-    subst (λ (o : Option ℕ). IfSome o (IsNumberRow context (take (length bytes - at) (drop at bytes)) cells)) c.in-Some.is c.in_ok-len.ensures.ok in
-    let is : IsNumberRow context (drop at bytes) cells len = subst (λ (bs : List ℕ). IsNumberRow context bs cells len) (take_rest bytes at) row in
-    let count : length cells ≡ length context.schema.types =
-    subst (λ (o : Option ℕ). IfSome o (λ end. length cells ≡ length old.types)) c.in-Some.is c.in_ok-len.ensures.count ∙ ap length c.requires.types in (
-      ends context c.requires.numbers bytes at len c.requires.within cells is count,
-      high context c.requires.numbers bytes at len c.requires.within cells is count,
-      row_pushed context c.requires.numbers bytes at len c.requires.within cells is count c.if-len-context.true old c.finish_row.new.self
-          (finished cells old under c.finish_row.new.self c.requires.whole c.in_ok-len.ensures.same c.in_ok-finish_row.ensures.ok),
-    )
+    let so = c.loop-column.invariant in
+    let first : ChunkView = c.args.chunk.now in
+    let old : ChunkView = c.loop-column.chunk in
+    let new : ChunkView = c.push_bigint.new.self in
+    let from = c.loop-column.from in
+    let front = c.in-Some.front in
+    let lt : length old.unfinished < length context.schema.types = omega (arith, so.count, c.columns-column-end.ensures, c.loop-column-test.true, ap length c.requires.types) in
+    let pushed : new ≡ record old { unfinished = old.unfinished ++ typed (Int front.number) ∷ [] } =
+    c.in_ok-push_bigint.ensures.ok ∙ ap (λ n. record old { unfinished = old.unfinished ++ typed (Int n) ∷ [] }) (to_z-of_z w64 front.number (search rules)) in
+    let found : IsFieldPushed context Bigint bytes from old new front.end = number_pushed context c.requires.holds bytes from old new front c.in-Some.ensures.value lt pushed in
+    let sound = c.requires.holds.plain.leaves.sound in
+    let next : slice_get context.schema.types (length old.unfinished) ≡ Some Bigint = takes_number context c.requires.holds (length old.unfinished) lt in
+    record {
+      under = still_under context sound bytes from first old new so.under Bigint next front.end found so.fields;
+      count = omega (arith, so.count, one_longer context sound bytes from first old new so.under Bigint next front.end found so.fields);
+      within = omega (arith, found.high);
+      fields = step_more context sound bytes from first old new so.under Bigint next front.end found so.fields (c.in-Some.ensures.ends ∙ c.delim-delim.ensures);
+    }
+
+pub push_bigint-requires-2 : goal.push_bigint-requires-2
+push_bigint-requires-2 c = record {
+  next = takes_next c.args.context.now c.requires.holds c.args.chunk.now c.loop-column.chunk c.requires.types c.loop-column.invariant.under
+      (omega (arith, c.loop-column.invariant.count, c.columns-column-end.ensures, c.loop-column.auto._column-end, c.requires.holds.plain.some, ap length c.requires.types));
+}
+
+pub returns-clause-ok : goal.returns-clause-ok
+returns-clause-ok c =
+    let context = c.args.context.now in
+    let bytes = c.args.bytes.now in
+    let so = c.loop-column.invariant in
+    let first : ChunkView = c.args.chunk.now in
+    let old : ChunkView = c.loop-column.chunk in
+    let new : ChunkView = c.push_bigint-2.new.self in
+    let from = c.loop-column.from in
+    let front = c.in-Some-last_number.front in
+    let lt : length old.unfinished < length context.schema.types =
+    omega (arith, so.count, c.columns-column-end.ensures, c.loop-column.auto._column-end, c.requires.holds.plain.some, ap length c.requires.types) in
+    let pushed : new ≡ record old { unfinished = old.unfinished ++ typed (Int front.number) ∷ [] } =
+    c.in_ok-push_bigint-2.ensures.ok ∙ ap (λ n. record old { unfinished = old.unfinished ++ typed (Int n) ∷ [] }) (to_z-of_z w64 front.number (search rules)) in
+    let found : IsFieldPushed context Bigint bytes from old new front.end = number_pushed context c.requires.holds bytes from old new front c.in-Some-last_number.ensures.value lt pushed in
+    let sound = c.requires.holds.plain.leaves.sound in
+    let next : slice_get context.schema.types (length old.unfinished) ≡ Some Bigint = takes_number context c.requires.holds (length old.unfinished) lt in
+    step_last context sound bytes from first old new so.under Bigint next front.end found so.fields c.in-Some-last_number.ensures.ends c.requires.no_comment

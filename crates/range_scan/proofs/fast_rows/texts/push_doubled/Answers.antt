@@ -10,7 +10,7 @@ use Rattle.range_scan.proofs.fast_rows.texts.push_doubled.Goals as goal
 
 pub run-requires-clause-ordered : goal.run-requires-clause-ordered
 run-requires-clause-ordered c =
-    (next_within c.args.context.now c.args.bytes.now c.args.from c.requires.holds.leaves.sound c.requires.within c.requires.doubles (c.args.from + 1) c.args.first
+    (next_within c.args.context.now c.args.bytes.now c.args.from c.requires.holds.plain.leaves.sound c.requires.within c.requires.doubles (c.args.from + 1) c.args.first
     (omega (arith, c.requires.within)) c.requires.first).0
 
 pub quotes-init : goal.quotes-init
@@ -22,7 +22,7 @@ quotes-init c =
     record {
       value = slice_range bytes (from + 1) first;
       pushed = c.in_ok-push_text.ensures.ok ∙ ap (λ (v : List ℕ). record old { unfinished = old.unfinished ++ text v ∷ [] }) c.run.ensures;
-      has = begins_text c.args.context.now bytes from c.requires.holds.leaves.sound c.requires.within c.requires.doubles first c.requires.first;
+      has = begins_text c.args.context.now bytes from c.requires.holds.plain.leaves.sound c.requires.within c.requires.doubles first c.requires.first;
     }
 
 pub run-requires-in-quotes-clause-ordered : goal.run-requires-in-quotes-clause-ordered
@@ -32,7 +32,7 @@ run-requires-in-quotes-clause-ordered c =
     let at = c.quotes.at in
     let r = c.next_byte-at.result in
     let two = c.is_doubled.ensures.yes c.quotes-test.true in
-    let next = next_within c.args.context.now bytes from c.requires.holds.leaves.sound c.requires.within c.requires.doubles (at + 2) r (omega (arith, two.0)) c.next_byte-at.ensures in
+    let next = next_within c.args.context.now bytes from c.requires.holds.plain.leaves.sound c.requires.within c.requires.doubles (at + 2) r (omega (arith, two.0)) c.next_byte-at.ensures in
     omega (arith, next.0)
 
 pub run-requires-in-quotes-clause-within : goal.run-requires-in-quotes-clause-within
@@ -42,7 +42,7 @@ run-requires-in-quotes-clause-within c =
     let at = c.quotes.at in
     let r = c.next_byte-at.result in
     let two = c.is_doubled.ensures.yes c.quotes-test.true in
-    let next = next_within c.args.context.now bytes from c.requires.holds.leaves.sound c.requires.within c.requires.doubles (at + 2) r (omega (arith, two.0)) c.next_byte-at.ensures in
+    let next = next_within c.args.context.now bytes from c.requires.holds.plain.leaves.sound c.requires.within c.requires.doubles (at + 2) r (omega (arith, two.0)) c.next_byte-at.ensures in
     next.1
 
 pub quotes-smaller : goal.quotes-smaller
@@ -52,7 +52,7 @@ quotes-smaller c =
     let at = c.quotes.at in
     let r = c.next_byte-at.result in
     let two = c.is_doubled.ensures.yes c.quotes-test.true in
-    let next = next_within c.args.context.now bytes from c.requires.holds.leaves.sound c.requires.within c.requires.doubles (at + 2) r (omega (arith, two.0)) c.next_byte-at.ensures in
+    let next = next_within c.args.context.now bytes from c.requires.holds.plain.leaves.sound c.requires.within c.requires.doubles (at + 2) r (omega (arith, two.0)) c.next_byte-at.ensures in
     omega (arith, next.0, two.0)
 
 pub quotes-preserved : goal.quotes-preserved
@@ -70,7 +70,7 @@ quotes-preserved c =
       value = so.value ++ more;
       pushed = longer_by old chunk so.value so.pushed more c.extend_text.new.self
           (c.in_ok-extend_text.ensures.ok ∙ ap (λ (v : List ℕ). record chunk { unfinished = on_last (longer v) chunk.unfinished }) c.run-in-quotes.ensures);
-      has = goes_on_text c.args.context.now bytes from c.requires.holds.leaves.sound c.requires.within c.requires.doubles c.args.first at r so.value so.has two.0 two.1 c.next_byte-at.ensures;
+      has = goes_on_text c.args.context.now bytes from c.requires.holds.plain.leaves.sound c.requires.within c.requires.doubles c.args.first at r so.value so.has two.0 two.1 c.next_byte-at.ensures;
     }
 
 pub returns-clause-at : goal.returns-clause-at
@@ -85,7 +85,7 @@ returns-clause-at c =
       high = lt;
       cell = text so.value;
       pushed = so.pushed;
-      is = doubled_text c.args.context.now bytes from c.requires.holds.leaves.sound c.requires.within c.requires.doubles c.args.first at so.value c.requires.holds so.has
+      is = doubled_text c.args.context.now bytes from c.requires.holds.plain.leaves.sound c.requires.within c.requires.doubles c.args.first at so.value c.requires.holds so.has
           (λ here. ap (λ n. get_or bytes (n + 1) 0) here ∙ c.requires.doubled.1) (c.is_doubled.ensures.no c.quotes-test.false lt) lt;
       ascii = λ other. absurd (other refl);
     }

@@ -1,10 +1,9 @@
-use Rattle.std.proofs.Common.{◌≡◌, ◌<◌, ◌∙◌, ℕ, List, Option, false, sym, ap, subst, arith, length, rules}
-use Rattle.std.specs.Prelude.{◌==◌, IfSome}
-use Rattle.std.specs.List.{list_any}
+use Rattle.std.proofs.Common.{◌≡◌, ◌<◌, ◌∙◌, ℕ, Option, false, sym, ap, subst, arith, length, rules}
+use Rattle.std.specs.Prelude.{IfSome}
 use Rattle.std.proofs.lemmas.Bool.{ltb-true}
 use Rattle.range_scan.specs.FastRows.{begins_plain, is_plain_in}
 use Rattle.range_scan.proofs.PlainTests.{none_is_cr, none_is_lf}
-use Rattle.range_scan.proofs.fast_rows.kinds.holds_fields.Goals as goal
+use Rattle.range_scan.proofs.fast_rows.kinds.holds_plain.Goals as goal
 
 pub returns : goal.returns
 returns c = λ some.
@@ -21,7 +20,5 @@ returns c = λ some.
         quote = subst (λ (o : Option ℕ). IfSome o (λ q. is_plain_in types q ≡ false)) c.quote.ensures.value (c.is_plain_mark.ensures c.if-is_plain_mark.false);
         comment = subst (λ (o : Option ℕ). IfSome o (λ q. is_plain_in types q ≡ false)) c.comment.ensures (c.is_plain_mark-else-is_plain_mark.ensures c.if-is_plain_mark-2.false);
       };
-      null = ap (begins_plain (is_plain_in types)) (sym c.as_slice-null.ensures) ∙ sym c.is_plain_front.ensures ∙ c.if-is_plain_front.false;
-      quote = subst (λ (null : List ℕ). IfSome context.dialect.quote (λ q. list_any (λ b. b == q) null ≡ false)) c.as_slice-null.ensures
-          (subst (λ (o : Option ℕ). IfSome o (λ q. list_any (λ b. b == q) c.as_slice-null.result.now ≡ false)) c.quote-else-is_plain_front.ensures.value (c.has_mark.ensures c.if-has_mark.false));
+      null = ap (begins_plain (is_plain_in types)) (sym c.as_slice.ensures) ∙ sym c.is_plain_front.ensures ∙ c.if-is_plain_front.false;
     }

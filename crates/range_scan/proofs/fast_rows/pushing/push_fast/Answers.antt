@@ -6,7 +6,7 @@ use Rattle.value_types.specs.Datum.{Datum}
 use Rattle.range_scan.specs.FastRows.{IsFastRow}
 use Rattle.range_scan.proofs.FastVerdict.{ascii_text, ends, high, known_text, row_pushed}
 use Rattle.range_scan.proofs.PushedRows.{finished}
-use Rattle.range_scan.proofs.fast_rows.pushing.push_row.Goals as goal
+use Rattle.range_scan.proofs.fast_rows.pushing.push_fast.Goals as goal
 
 pub returns-then-is_text-clause-ok : goal.returns-then-is_text-clause-ok
 returns-then-is_text-clause-ok c =
@@ -15,7 +15,7 @@ returns-then-is_text-clause-ok c =
     let at = c.args.at in
     let len = c.in-Some.len in
     let old = c.args.chunk.now in
-    let under = c.push_fields.new.chunk in
+    let under = c.push_cells.new.chunk in
     let cells : List Datum = under.unfinished in
     let row : IsFastRow context (take (length bytes - at) (drop at bytes)) cells len =
     subst (λ (o : Option ℕ). IfSome o (IsFastRow context (take (length bytes - at) (drop at bytes)) cells)) c.in-Some.is c.in_ok-len.ensures.ok in

@@ -5,7 +5,7 @@ use Rattle.std.proofs.lemmas.List.Elements.{All-more}
 use Rattle.std.proofs.lemmas.Option.{get_or_from_slice_get}
 use Rattle.value_types.specs.declared.types.ColumnType.{ColumnType}
 use Rattle.value_types.specs.declared.types.ColumnType.TheVariants.{Bigint}
-use Rattle.range_scan.proofs.fast_rows.numbers.all_bigint.Goals as goal
+use Rattle.range_scan.proofs.fast_rows.kinds.all_bigint.Goals as goal
 
 abbrev IsBigint : ColumnType → Type 0
 IsBigint ty = ty ≡ Bigint
