@@ -2,4 +2,5 @@ pub mod Stored
 pub mod Naming
 pub mod Definitions
 pub mod Rejects
+pub mod Written
 pub mod Database

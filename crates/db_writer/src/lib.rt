@@ -7,5 +7,7 @@
 #![tactic(auto)]
 
 mod database;
+mod row_writer;
+mod rows;
 
 pub use database::write_database;
