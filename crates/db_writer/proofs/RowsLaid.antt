@@ -1,5 +1,5 @@
 -- Rows that are laid out one after another.
-use Rattle.std.proofs.Common.{◌≡◌, ℕ, zero, suc, ◌+◌, ◌-◌, ◌%◌, ◌<◌, ◌≤◌, cond, List, [], ◌∷◌, ◌++◌, length, map, take, get_or, refl, sym, ◌∙◌, ap, arith, append_assoc, append-nil, length-append, Some}
+use Rattle.std.proofs.Common.{◌≡◌, ℕ, zero, suc, ◌+◌, ◌-◌, ◌%◌, ◌<◌, ◌≤◌, cond, List, [], ◌∷◌, ◌++◌, length, map, take, drop, get_or, refl, sym, ◌∙◌, ap, arith, append_assoc, append-nil, length-append, Some}
 use Rattle.std.specs.Prelude.{◌==◌, flat_map, slice_get, slice_range}
 use Rattle.sqlite_value.specs.declared.value.Value.{Value}
 use Rattle.sqlite_value.specs.Order.{Row}
@@ -36,18 +36,30 @@ pub values-more : (w : Written) (row : Row) (value : Value) → with_value (with
 values-more w row value =
     λ i. record { rows = w.rows; next = w.next; values = record { types = more type_bytes w.values.types row value i; body = more value_bytes w.values.body row value i } }
 
-take-more : {X : Type 0} (xs : List X) (k : ℕ) (x : X) → slice_get xs k ≡ Some x → take (suc k) xs ≡ take k xs ++ x ∷ []
-take-more [] k x at = absurd (let no : ⊥ = cc in no)
-take-more (y ∷ xs) zero x at = let same : y ≡ x = cc in ap (λ z. z ∷ []) same
-take-more (y ∷ xs) (suc k) x at = ap (λ rest. y ∷ rest) (take-more xs k x at)
+take-suc : {X : Type 0} (xs : List X) (k : ℕ) (x : X) → slice_get xs k ≡ Some x → take (suc k) xs ≡ take k xs ++ x ∷ []
+take-suc [] k x at = absurd (let no : ⊥ = cc in no)
+take-suc (y ∷ xs) zero x at = let same : y ≡ x = cc in ap (λ z. z ∷ []) same
+take-suc (y ∷ xs) (suc k) x at = ap (λ rest. y ∷ rest) (take-suc xs k x at)
+
+-- the things before a place, and the one that stands there
+pub take-at : {X : Type 0} (xs : List X) (k : ℕ) (x : X) → slice_get xs k ≡ Some x → take (k + 1) xs ≡ take k xs ++ x ∷ []
+take-at xs k x at = let next : k + 1 ≡ suc k = omega arith in ap (λ n. take n xs) next ∙ take-suc xs k x at
+
+drop-suc : {X : Type 0} (xs : List X) (k : ℕ) (x : X) → slice_get xs k ≡ Some x → drop k xs ≡ x ∷ drop (suc k) xs
+drop-suc [] k x at = absurd (let no : ⊥ = cc in no)
+drop-suc (y ∷ xs) zero x at = let same : y ≡ x = cc in ap (λ z. z ∷ xs) same
+drop-suc (y ∷ xs) (suc k) x at = drop-suc xs k x at
+
+-- the things from a place on
+pub drop-at : {X : Type 0} (xs : List X) (k : ℕ) (x : X) → slice_get xs k ≡ Some x → drop k xs ≡ x ∷ drop (k + 1) xs
+drop-at xs k x at = let next : suc k ≡ k + 1 = omega arith in drop-suc xs k x at ∙ ap (λ n. x ∷ drop n xs) next
 
 -- a cell was appended to those before
 pub cell-appended : (w into new : Written) (cells : List Datum) (k : ℕ) (cell : Datum) → slice_get cells k ≡ Some cell → into ≡ with_values w (stored_row (take k cells)) →
     new ≡ with_value into (stored_cell cell) → new ≡ with_values w (stored_row (take (k + 1) cells))
 cell-appended w into new cells k cell at before one =
-    let next : k + 1 ≡ suc k = omega arith in
     one ∙ ap (λ v. with_value v (stored_cell cell)) before ∙ values-more w (stored_row (take k cells)) (stored_cell cell)
-    ∙ ap (with_values w) (sym (map-append stored_cell (take k cells) (cell ∷ [])) ∙ ap stored_row (sym (take-more cells k cell at)) ∙ ap (λ n. stored_row (take n cells)) (sym next))
+    ∙ ap (with_values w) (sym (map-append stored_cell (take k cells) (cell ∷ [])) ∙ ap stored_row (sym (take-at cells k cell at)))
 
 -- ---- rows
 

@@ -7,6 +7,8 @@
 #![tactic(auto)]
 
 mod database;
+mod definitions;
+mod naming;
 mod row_writer;
 mod rows;
 
