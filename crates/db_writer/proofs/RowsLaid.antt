@@ -20,7 +20,7 @@ with_rows-append base first laid (row ∷ rows) more =
     let count : first + suc (length rows) ≡ (first + 1) + length rows = omega arith in
     ap (λ n. with_rows base (with_rows base to (first + 1) rows) n more) count ∙ with_rows-append base (first + 1) to rows more
 
-map-append : {X A : Type 0} (f : X → A) (xs ys : List X) → map f (xs ++ ys) ≡ map f xs ++ map f ys
+pub map-append : {X A : Type 0} (f : X → A) (xs ys : List X) → map f (xs ++ ys) ≡ map f xs ++ map f ys
 map-append f [] ys = refl
 map-append f (x ∷ xs) ys = ap (λ rest. f x ∷ rest) (map-append f xs ys)
 

@@ -3,4 +3,5 @@ pub mod Naming
 pub mod Definitions
 pub mod Rejects
 pub mod Written
+pub mod Field
 pub mod Database

@@ -8,7 +8,9 @@
 
 mod database;
 mod definitions;
+mod fields;
 mod naming;
+mod rejects;
 mod row_writer;
 mod rows;
 
