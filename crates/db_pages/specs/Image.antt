@@ -1,5 +1,5 @@
 -- A database of tables (SQLite, "Database File Format", sections 1.3 and 2.6).
-use Rattle.std.specs.Prelude.{ℕ, ◌+◌, ◌-◌, ◌/◌, ◌^◌, pos, List, [], ◌∷◌, ◌++◌, codes, length, map, take, drop, replicate, nat_le, if◌then◌else◌}
+use Rattle.std.specs.Prelude.{ℕ, ◌-◌, ◌^◌, pos, List, [], ◌∷◌, ◌++◌, codes, length, map, take, drop, replicate, nat_le, if◌then◌else◌}
 use Rattle.sqlite_value.specs.declared.value.Value.TheVariants.{Int, Text}
 use Rattle.sqlite_value.specs.Order.{Row}
 use Rattle.db_records.specs.Record.{record_bytes}

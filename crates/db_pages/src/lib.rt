@@ -6,9 +6,15 @@
 //! of tables, and the first page in front. What is written is a function of the rows, the names and the definitions alone.
 #![tactic(auto)]
 
+mod cells;
+mod chain;
 mod child;
+mod closed_leaves;
 mod image;
 mod leaves;
+mod levels;
+mod number;
+mod packing;
 mod table_pages;
 mod tree;
 

@@ -1,5 +1,5 @@
 // Numbers of one to eight bytes, the most significant digits first.
-ghost use Rattle.std.specs.Prelude.{◌≡◌, ◌++◌, OnOk};
+ghost use Rattle.std.specs.Prelude.{◌≡◌, ◌≤◌, ◌++◌, length, OnOk};
 ghost use Rattle.db_records.specs.Varint.{digits_before, marked, varint};
 
 use crate::appending::append;
@@ -37,6 +37,15 @@ fn digits_before(value: u64) -> u32
     } else {
         7
     }
+}
+
+/// How many bytes a number takes.
+#[inline(always)]
+pub fn varint_len(value: u64) -> usize
+    ensures value { result ≡ length (varint value) }
+    ensures within { result ≤ 8 }
+{
+    digits_before(value) as usize + 1
 }
 
 /// Appends a number in its shortest form, where it is below 2^56: of a larger one the last eight digits.

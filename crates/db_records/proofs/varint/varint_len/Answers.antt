@@ -1,0 +1,10 @@
+use Rattle.std.proofs.Common.{◌≡◌, length, sym, ◌∙◌, ap, arith}
+use Rattle.db_records.specs.Varint.{digits_before, varint}
+use Rattle.db_records.proofs.Varints.{varint-size, digits-few}
+use Rattle.db_records.proofs.varint.varint_len.Goals as goal
+
+pub returns : goal.returns
+returns c = record {
+  value = omega (arith, c.digits_before.ensures, varint-size c.args.value);
+  within = omega (arith, c.digits_before.ensures, digits-few c.args.value);
+}
