@@ -5,6 +5,7 @@ use Rattle.db_pages.specs.Grown.{tree_of}
 use Rattle.db_pages.specs.Image.{first_page}
 
 first_size : length (first_page 5 5) ≡ 4096
+unfolding first_page
 first_size = refl
 
 empty_root : (tree_of 1 []).root ≡ 1

@@ -1,4 +1,4 @@
-use Rattle.std.proofs.Common.{◌≡◌, ◌+◌, ◌<◌, ◌∙◌, List, ap, arith, length, length-drop}
+use Rattle.std.proofs.Common.{◌≡◌, ◌+◌, List, ap, arith, length, length-drop}
 use Rattle.std.proofs.lemmas.Result.{on_ok_weaker}
 use Rattle.db_pages.specs.declared.child.Child.{Child}
 use Rattle.db_pages.proofs.Grouping.{level-end, level-step, pages-end, pages-step}

@@ -1,4 +1,4 @@
-use Rattle.std.proofs.Common.{◌≡◌, ◌+◌, ◌≤◌, ◌++◌, [], ◌∙◌, ◌∷◌, List, ℕ, length, ap, arith, length-append}
+use Rattle.std.proofs.Common.{◌≡◌, ◌+◌, ◌++◌, [], ◌∙◌, ◌∷◌, List, ℕ, length, ap, arith, length-append}
 use Rattle.db_records.specs.Varint.{varint}
 use Rattle.db_pages.specs.Numbers.{four_bytes, number_of}
 use Rattle.db_records.specs.Page.{joined}

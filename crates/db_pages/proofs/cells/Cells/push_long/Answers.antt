@@ -1,4 +1,4 @@
-use Rattle.std.proofs.Common.{◌≡◌, ◌++◌, ◌∙◌, ◌∷◌, List, ℕ, length, sym, arith, length-append}
+use Rattle.std.proofs.Common.{◌≡◌, ◌∙◌, List, ℕ, length, sym, arith}
 use Rattle.db_pages.specs.Laid.{long_cell}
 use Rattle.db_pages.proofs.Chains.{long_cell_size}
 use Rattle.db_pages.proofs.Cuts.{cells_more, fits_with}

@@ -1,4 +1,4 @@
-use Rattle.std.proofs.Common.{◌≡◌, ◌++◌, ◌∙◌, ◌∷◌, List, ℕ, length, sym, arith, length-append}
+use Rattle.std.proofs.Common.{◌≡◌, List, ℕ, length}
 use Rattle.db_records.specs.Cell.{cell_bytes}
 use Rattle.db_pages.proofs.Cuts.{cells_more, fits_with}
 use Rattle.db_pages.proofs.cells.Cells.push_row.Goals as goal

@@ -1,10 +1,10 @@
-use Rattle.std.proofs.Common.{◌≡◌, ◌==◌, ◌++◌, ◌∷◌, ◌∙◌, [], List, false, true, ℕ, length, ap, sym, rules, arith}
+use Rattle.std.proofs.Common.{◌≡◌, ◌++◌, ◌∷◌, ◌∙◌, [], true, ap, sym, rules}
 use Rattle.std.proofs.lemmas.Result.{on_ok_weaker}
 use Rattle.db_records.specs.Page.{leaf_page}
 use Rattle.db_pages.specs.declared.child.Child.{Child}
 use Rattle.db_pages.specs.Grown.{Grown}
 use Rattle.db_pages.specs.Laid.{is_none}
-use Rattle.db_pages.proofs.Closed.{first_leaf, is_none-length, some_leaf}
+use Rattle.db_pages.proofs.Closed.{first_leaf, is_none-length}
 use Rattle.db_pages.proofs.table_pages.TablePages.push_first_leaf.Goals as goal
 
 pub returns : goal.returns
