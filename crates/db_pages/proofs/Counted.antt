@@ -1,5 +1,5 @@
 -- The pages of rows are whole, and as many as leaves where no record goes on in another page.
-use Rattle.std.proofs.Common.{◌≡◌, ℕ, suc, ◌+◌, ◌-◌, ◌*◌, ◌/◌, ◌%◌, ◌<◌, ◌≤◌, ◌==◌, Bool, true, false, if◌then◌else◌, List, [], ◌∷◌, ◌++◌, length, drop, refl, sym, ◌∙◌, ap, subst, arith, inl, inr, length-append, nat_le}
+use Rattle.std.proofs.Common.{◌≡◌, ℕ, ◌+◌, ◌*◌, ◌/◌, ◌%◌, ◌<◌, ◌≤◌, ◌==◌, Bool, true, false, if◌then◌else◌, List, [], ◌∷◌, ◌++◌, length, drop, refl, sym, ap, subst, arith, inl, inr, length-append, nat_le}
 use Rattle.std.specs.Prelude.{⊤}
 use Rattle.std.proofs.lemmas.Bool.{cases_lt, cond-true, cond-false, le-leb, lt-leb}
 use Rattle.sqlite_format.specs.declared.kind.Tree.TheVariants.{Table}
@@ -100,18 +100,18 @@ row-adds : (base : ℕ) (laid : Laid) (rowid : ℕ) (row : List ℕ) (n : ℕ) �
 row-adds base laid rowid row n c =
     elim (cases_lt 4061 (length row)) [
       | inl much ↦ record {
-          added = links base laid rowid row;
-          counts = same (with_long base laid rowid row) (with_row base laid rowid row) (n + links base laid rowid row)
-              (cond-false (nat_le (length row) 4061) (with_short base laid rowid row) (with_long base laid rowid row) (lt-leb (length row) 4061 much)) (long base laid rowid row n c);
-          none = λ is. absurd (let no : ⊥ = omega (arith, is, links-some base laid rowid row (omega (arith, much))) in no);
-        }
+        added = links base laid rowid row;
+        counts = same (with_long base laid rowid row) (with_row base laid rowid row) (n + links base laid rowid row)
+            (cond-false (nat_le (length row) 4061) (with_short base laid rowid row) (with_long base laid rowid row) (lt-leb (length row) 4061 much)) (long base laid rowid row n c);
+        none = λ is. absurd (let no : ⊥ = omega (arith, is, links-some base laid rowid row (omega (arith, much))) in no);
+      }
       | inr few ↦ record {
-          added = 0;
-          counts = same (with_short base laid rowid row) (with_row base laid rowid row) (n + 0)
-              (cond-true (nat_le (length row) 4061) (with_short base laid rowid row) (with_long base laid rowid row) (le-leb (length row) 4061 few))
-              (let e : n ≡ n + 0 = omega arith in subst (λ k. Counts (with_short base laid rowid row) k) e (short base laid rowid row n few c));
-          none = λ _. few;
-        }
+        added = 0;
+        counts = same (with_short base laid rowid row) (with_row base laid rowid row) (n + 0)
+            (cond-true (nat_le (length row) 4061) (with_short base laid rowid row) (with_long base laid rowid row) (le-leb (length row) 4061 few))
+            (let e : n ≡ n + 0 = omega arith in subst (λ k. Counts (with_short base laid rowid row) k) e (short base laid rowid row n few c));
+        none = λ _. few;
+      }
     ]
 
 step-counts : (test : Bool) (base : ℕ) (laid : Laid) (n : ℕ) → Counts laid n → Counts (if test then ended base laid else laid) n

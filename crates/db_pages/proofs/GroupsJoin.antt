@@ -1,7 +1,6 @@
 -- Groups of rows that are written side by side and joined.
-use Rattle.std.proofs.Common.{◌≡◌, ◌⊎◌, ℕ, suc, ◌+◌, ◌-◌, ◌*◌, ◌/◌, ◌%◌, ◌<◌, ◌≤◌, ◌==◌, ◌||◌, Bool, true, false, if◌then◌else◌, List, [], ◌∷◌, ◌++◌, length, map, refl, sym, ◌∙◌, ap, arith, inl, inr, append-nil}
+use Rattle.std.proofs.Common.{◌≡◌, ℕ, ◌+◌, ◌*◌, ◌%◌, ◌==◌, true, if◌then◌else◌, List, [], ◌∷◌, ◌++◌, length, map, refl, sym, ◌∙◌, ap, arith, inl, inr, append-nil}
 use Rattle.std.proofs.lemmas.Bool.{cond-true, eqb-true, or_cases, eq-eqb}
-use Rattle.db_pages.specs.declared.child.Child.{Child}
 use Rattle.db_pages.specs.Laid.{Laid, ended, finished, is_none, next_place, nothing_laid, with_row, with_rows}
 use Rattle.db_pages.specs.Grown.{Grown, behind, closed, grown, holds_at, moved}
 use Rattle.db_pages.proofs.Counted.{AllShort, Adds, Counts, end-counts, nothing-counts, rows-add}
@@ -16,7 +15,7 @@ none-under-way base (row ∷ rows) laid first empty ends =
     let next : Laid = with_row base laid first row in
     none-under-way base rows (if first % 8192 == 0 then ended base next else next) (first + 1)
     (λ none. let whole : first % 8192 ≡ 0 = omega (arith, none, ends) in
-      ap (λ (l : Laid). l.cells) (cond-true (first % 8192 == 0) (ended base next) next (eq-eqb (first % 8192) 0 whole)) ∙ ended-none next)
+    ap (λ (l : Laid). l.cells) (cond-true (first % 8192 == 0) (ended base next) next (eq-eqb (first % 8192) 0 whole)) ∙ ended-none next)
     (omega (arith, ends))
   where
     ended-none : (l : Laid) → (ended base l).cells ≡ []

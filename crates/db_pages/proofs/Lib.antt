@@ -5,6 +5,8 @@ pub mod Sizes
 pub mod Follows
 pub mod Counted
 pub mod GroupsJoin
+pub mod WholeTrees
+pub mod TablesFollow
 pub mod Images
 pub mod Joined
 pub mod LockPage

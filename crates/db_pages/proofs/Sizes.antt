@@ -1,5 +1,5 @@
 -- The sizes of cells and chains.
-use Rattle.std.proofs.Common.{◌≡◌, ℕ, zero, suc, ◌+◌, ◌-◌, ◌*◌, ◌%◌, ◌<◌, ◌≤◌, List, [], ◌++◌, length, take, drop, replicate, refl, ◌∙◌, ap, arith, inl, inr, length-append, length-take-le, length-drop}
+use Rattle.std.proofs.Common.{◌≡◌, ℕ, zero, suc, ◌+◌, ◌-◌, ◌%◌, ◌<◌, ◌≤◌, List, ◌++◌, length, take, drop, replicate, refl, ap, arith, inl, inr, length-append, length-take-le}
 use Rattle.std.proofs.lemmas.Bool.{cases_lt}
 use Rattle.std.proofs.lemmas.Bool.Decides.{nat_tests}
 use Rattle.std.proofs.lemmas.List.{length-replicate}
@@ -12,7 +12,7 @@ use Rattle.db_pages.specs.Numbers.{four_bytes, number_of}
 use Rattle.db_pages.specs.Laid.{chain, long_cell}
 use Rattle.db_pages.proofs.Chains.{chain-last, chain-more}
 
-varint-short : (n : ℕ) → length (varint n) ≤ 8
+pub varint-short : (n : ℕ) → length (varint n) ≤ 8
 varint-short n = omega (arith, varint-size n, digits-few n)
 
 local-most : (n : ℕ) → local_len Table 4096 n ≤ 4061
@@ -37,8 +37,17 @@ long-size place rowid row =
     let d : List ℕ = take n row in
     let e : List ℕ = four_bytes (number_of place) in
     let four : length e ≡ 4 = refl in
-    omega (arith, four, length-append a (b ++ (d ++ e)), length-append b (d ++ e), length-append d e, length-take-le n row (local-within (length row)),
-      local-most (length row), varint-short (length row), varint-short rowid)
+    omega (
+      arith,
+      four,
+      length-append a (b ++ (d ++ e)),
+      length-append b (d ++ e),
+      length-append d e,
+      length-take-le n row (local-within (length row)),
+      local-most (length row),
+      varint-short (length row),
+      varint-short rowid,
+    )
 
 -- pages in which a record goes on are whole
 pub chain-whole : (fuel place : ℕ) (rest : List ℕ) → length (chain fuel place rest) % 4096 ≡ 0
@@ -49,8 +58,15 @@ chain-whole (suc fuel) place rest =
           let more : List ℕ = chain fuel (place + 1) (drop 4092 rest) in
           let number : List ℕ = four_bytes (number_of (place + 1)) in
           let four : length number ≡ 4 = refl in
-          omega (arith, ap length (chain-more fuel place rest long), four, length-append number (take 4092 rest ++ more), length-append (take 4092 rest) more,
-            length-take-le 4092 rest (omega (arith, long)), chain-whole fuel (place + 1) (drop 4092 rest))
+          omega (
+            arith,
+            ap length (chain-more fuel place rest long),
+            four,
+            length-append number (take 4092 rest ++ more),
+            length-append (take 4092 rest) more,
+            length-take-le 4092 rest (omega (arith, long)),
+            chain-whole fuel (place + 1) (drop 4092 rest),
+          )
       | inr short ↦
           let zeros : List ℕ = replicate (4092 - length rest) 0 in
           let none : List ℕ = four_bytes 0 in

@@ -1,5 +1,5 @@
 //! Laws over the definitions: what is joined is what one writer would have written.
-ghost use Rattle.db_pages.specs.Laws.{GroupsJoin, RowsFollow};
+ghost use Rattle.db_pages.specs.Laws.{GroupsJoin, RowsFollow, TablesFollow};
 
 /// Rows that are laid out behind others are laid out with them.
 pub fn rows_follow()
@@ -10,4 +10,9 @@ pub fn rows_follow()
 /// holds where it stands.
 pub fn groups_join()
     ensures { GroupsJoin }
+{}
+
+/// A table whose tree is written behind those of others is one more of them.
+pub fn tables_follow()
+    ensures { TablesFollow }
 {}

@@ -1,4 +1,4 @@
-use Rattle.std.proofs.Common.{◌≡◌, ◌++◌, length, arith, length-append}
+use Rattle.std.proofs.Common.{◌++◌, length, arith, length-append}
 use Rattle.db_records.specs.Varint.{varint}
 use Rattle.db_records.proofs.cell.cell_len.Goals as goal
 

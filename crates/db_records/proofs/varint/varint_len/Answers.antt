@@ -1,5 +1,4 @@
-use Rattle.std.proofs.Common.{◌≡◌, length, sym, ◌∙◌, ap, arith}
-use Rattle.db_records.specs.Varint.{digits_before, varint}
+use Rattle.std.proofs.Common.{arith}
 use Rattle.db_records.proofs.Varints.{varint-size, digits-few}
 use Rattle.db_records.proofs.varint.varint_len.Goals as goal
 
