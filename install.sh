@@ -1,5 +1,5 @@
 #!/bin/sh
-# Makes the proved build of csvload, and installs it with its man page, completions, and the scripts that fill databases.
+# Makes the proved build of csvload, and installs it with its man page, completions, and the script that fills a PostgreSQL table.
 #
 #     install.sh               into ~/.local
 #     PREFIX=DIR install.sh    into DIR
@@ -28,7 +28,6 @@ put() {
     echo "$prefix/$2"
 }
 put crates/csvload/out/csvload bin/csvload 755
-put examples/sqlite.py bin/csvload-sqlite 755
 put examples/postgres.sh bin/csvload-postgres 755
 put docs/csvload.1 share/man/man1/csvload.1 644
 put completions/csvload.bash share/bash-completion/completions/csvload 644

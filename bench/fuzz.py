@@ -25,6 +25,8 @@ SEEDS = [
     b"a\\\"b,\"c\\\"d\"\r1,2\r\n",
 ]
 
+COMMANDS = [["load"], ["load"], ["summary"], ["convert"], ["convert", "to=sqlite"]]
+
 WORDS = [
     ["header=false"],
     ["header=true"],
@@ -84,8 +86,8 @@ def main() -> None:
         for number in range(options.runs):
             data = changed(random_source, random_source.choice(seeds))
             file.write_bytes(data)
-            command = random_source.choice(["load", "load", "summary", "convert"])
-            words = [command, str(file), *words_for(random_source)]
+            command, *fixed = random_source.choice(COMMANDS)
+            words = [command, str(file), *fixed, *words_for(random_source)]
             whole = run(options.csvload, [*words, "threads=1", "range_size=67108864"])
             cut = [f"threads={random_source.choice([1, 2, 3, 8])}", f"range_size={random_source.randrange(1, 24)}"]
             parts = run(options.csvload, [*words, *cut])

@@ -49,6 +49,9 @@ _csvload() {
                 header | all_varchar | allow_quoted_nulls | null_padding | ignore_errors | store_rejects | pipeline | stats)
                     mapfile -t COMPREPLY < <(compgen -W 'true false' -- "$value")
                     ;;
+                to)
+                    mapfile -t COMPREPLY < <(compgen -W 'csv sqlite' -- "$value")
+                    ;;
                 types)
                     # Of several types the last one is completed.
                     local before=
@@ -58,7 +61,8 @@ _csvload() {
                 '')
                     mapfile -t COMPREPLY < <(compgen -W 'delim= quote= escape= comment= header= skip= nullstr= allow_quoted_nulls=
                         all_varchar= names= types= sample_size= null_padding= ignore_errors= store_rejects=
-                        rejects_limit= max_line_size= max_input= threads= range_size= pipeline= stats=' -- "$word")
+                        rejects_limit= max_line_size= max_input= threads= range_size= pipeline= stats=
+                        to= table=' -- "$word")
                     ;;
             esac
             [[ $word == *=* && -n $name && $word != = ]] && COMPREPLY=("${COMPREPLY[@]/#/$name=}")

@@ -71,12 +71,19 @@ VALUES = [
     option("types=BIGINT, DATE", "BadValue", "' DATE' " + NO_TYPE),
     option("names=a,b,a", "BadValue", "'a' stands twice in names"),
     option("names=a,,b", "BadValue", "name 2 of names is empty"),
+    option("to=db", "BadValue", "'to=db' is refused: to takes csv or sqlite"),
+    option(
+        "table=sqlite_x",
+        "BadValue",
+        "'table=sqlite_x' is refused: table takes a name of 1 to 1000 bytes that isn't reject_scans or reject_errors and doesn't"
+        " begin with sqlite_",
+    ),
     option("header=" + "x" * 70, "BadValue", f"'header={'x' * 53}..' is refused: header takes true or false"),
 ]
 
 
-def conflict(words: list[str], index: int, line: str) -> Case:
-    return refused(["load", "f.csv", *words], "Conflict", index, line)
+def conflict(words: list[str], index: int, line: str, command: str = "load") -> Case:
+    return refused([command, "f.csv", *words], "Conflict", index, line)
 
 
 CONFLICTS = [
@@ -96,6 +103,10 @@ CONFLICTS = [
         4,
         "escape=! wants a quote, and delim and comment leave none to be found: give it by quote=",
     ),
+    conflict(["table=orders"], 2, "table=orders wants to=sqlite", "convert"),
+    conflict(["to=sqlite"], 2, "load writes no database: convert and batch do"),
+    conflict(["to=csv"], 2, "load writes no CSV: convert does"),
+    conflict(["to=csv"], 2, "batch writes no CSV: it prints its report, or a database with to=sqlite", "batch"),
 ]
 
 # All but the last are good.

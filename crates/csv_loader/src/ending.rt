@@ -7,12 +7,12 @@ use csv_sniffer::Sniffed;
 use csv_source::NoMemory;
 use load_options::WordFault;
 use reject_book::Reject;
-use report_text::Outcome;
+use report_text::{Mismatch, Outcome};
 
 /// How a run ended.
 #[derive(Drop)]
 pub enum Ending {
-    /// The whole report, written table or made text was written. So many faults of rows were passed over, stored or not: 0
+    /// The whole report, written table, database or made text was written. So many faults of rows were passed over, stored or not: 0
     /// for `sniff` and `make`.
     Answered(u64),
     /// The words were refused.
@@ -22,6 +22,8 @@ pub enum Ending {
     /// The load ended with its first error: what was found in the file, of `batch` in the first one, and the reject, whose
     /// `file_id` is the file's number.
     FirstError(Sniffed, Reject),
+    /// The words don't fit what was found in the file, of `batch` in the first one.
+    Mismatch(Mismatch),
     /// The text could not be written whole.
     WriteFault,
     /// No memory could be had.
@@ -40,6 +42,7 @@ impl Ending {
             Outcome::Refused(fault, _word) => Ok(Ending::Refused(fault)),
             Outcome::ReadFault => Ok(Ending::ReadFault),
             Outcome::TooLarge(limit) => Ok(Ending::TooLarge(limit)),
+            Outcome::Mismatch(mismatch) => Ok(Ending::Mismatch(mismatch)),
             Outcome::FirstError(sniffed, reject) => Ok(Ending::FirstError(sniffed, reject)),
             Outcome::Sniffed(_sniffed) => Ok(Ending::Answered(faults)),
             Outcome::Loaded(_loaded) => Ok(Ending::Answered(faults)),
@@ -57,6 +60,7 @@ impl Ending {
             Ending::Refused(_) => Status::Refused,
             Ending::ReadFault => Status::ReadFault,
             Ending::FirstError(..) => Status::FirstError,
+            Ending::Mismatch(_) => Status::Mismatch,
             Ending::WriteFault => Status::WriteFault,
             Ending::NoMemory => Status::NoMemory,
             Ending::TooLarge(_) => Status::TooLarge,

@@ -2,7 +2,7 @@
 use crate::excerpt::shortened;
 use crate::given::{command_word, count_of_pieces, name_of, subject, value_of};
 use csv_source::NoMemory;
-use load_options::limits::COLUMN_LIMIT;
+use load_options::limits::{COLUMN_LIMIT, TABLE_NAME_LIMIT};
 use load_options::{Allowed, NumberRange, allowed_texts, command_of, word_at};
 use std::alloc::Global;
 
@@ -76,6 +76,10 @@ fn taken_by(alloc: Global, word: &str, allowed: Allowed) -> Result<String, NoMem
         Allowed::Text => format!(in alloc; "{name} takes any text")?,
         Allowed::Names => bad_names(alloc, word)?,
         Allowed::Types => bad_types(alloc, word)?,
+        Allowed::Format => format!(in alloc; "{name} takes csv or sqlite")?,
+        Allowed::TableName => format!(in alloc;
+            "{name} takes a name of 1 to {TABLE_NAME_LIMIT} bytes that isn't reject_scans or reject_errors and doesn't begin with sqlite_"
+        )?,
     };
     Ok(line)
 }

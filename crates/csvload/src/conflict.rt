@@ -1,6 +1,6 @@
 // Options that can't stand together.
 use crate::excerpt::shortened;
-use crate::given::{count_of_pieces, gives, value_of, word_giving};
+use crate::given::{command_word, count_of_pieces, gives, name_of, value_of, word_giving};
 use csv_source::NoMemory;
 use std::alloc::Global;
 
@@ -74,8 +74,26 @@ fn escape_alone(alloc: Global, words: &[String], escape: &str) -> Result<String,
     }
 }
 
-/// Why the word at that place can't stand beside another.
+/// Why a word about what is written can't stand: a table's name without a database, or a format that the command doesn't
+/// write.
+fn format_conflict(alloc: Global, words: &[String], word: &str) -> Result<String, NoMemory> {
+    let shown = shortened(alloc, word.as_bytes())?;
+    let line = match (name_of(word), command_word(words), value_of(word)) {
+        ("table", ..) => format!(in alloc; "{shown} wants to=sqlite")?,
+        (_, "batch", _) => format!(in alloc;
+            "batch writes no CSV: it prints its report, or a database with to=sqlite"
+        )?,
+        (_, command, "csv") => format!(in alloc; "{command} writes no CSV: convert does")?,
+        (_, command, _) => format!(in alloc; "{command} writes no database: convert and batch do")?,
+    };
+    Ok(line)
+}
+
+/// Why the word at that place can't stand beside another, or with the command.
 pub fn conflict(alloc: Global, words: &[String], word: &str) -> Result<String, NoMemory> {
+    if name_of(word) == "table" || name_of(word) == "to" {
+        return format_conflict(alloc, words, word);
+    }
     if let Some(limit) = word_giving(words, "rejects_limit") {
         if !gives(words, "store_rejects", "true") {
             let limit = shortened(alloc, limit.as_bytes())?;

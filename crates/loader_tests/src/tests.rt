@@ -5,6 +5,7 @@ mod comments;
 mod conflicts;
 mod convert;
 mod crew;
+mod database;
 mod endings;
 mod faults;
 mod faulty_rows;

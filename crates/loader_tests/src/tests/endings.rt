@@ -7,6 +7,7 @@ use csv_loader::{Ending, run_to_ending};
 use csv_source::{MemorySink, MemorySource, NoMemory, OpenGate};
 use load_options::WordRule;
 use reject_book::{ErrorKind, Reject};
+use report_text::Mismatch;
 use std::alloc::Global;
 use std::sync::Wait;
 use std::thread::Threads;
@@ -28,6 +29,7 @@ enum Wanted {
     FirstError(Place),
     WriteFault,
     TooLarge(u64),
+    TooManyColumns(u64),
 }
 
 /// Words, the files by their names, and how the run ends.
@@ -54,6 +56,9 @@ fn is_wanted(wanted: &Wanted, ending: &Ending) -> bool {
         }
         (Wanted::FirstError(place), Ending::FirstError(_, reject)) => is_at(place, reject),
         (Wanted::TooLarge(wanted), Ending::TooLarge(limit)) => wanted == limit,
+        (Wanted::TooManyColumns(wanted), Ending::Mismatch(Mismatch::TooManyColumns(limit))) => {
+            wanted == limit
+        }
         (Wanted::ReadFault, Ending::ReadFault) | (Wanted::WriteFault, Ending::WriteFault) => true,
         _ => false,
     }
@@ -66,6 +71,7 @@ fn code_of(wanted: &Wanted) -> u8 {
         Wanted::Refused(..) => 1,
         Wanted::ReadFault => 2,
         Wanted::FirstError(_) => 3,
+        Wanted::TooManyColumns(_) => 4,
         Wanted::WriteFault => 5,
         Wanted::TooLarge(_) => 7,
     }

@@ -2,8 +2,8 @@
 use super::words::words_of;
 use csv_source::NoMemory;
 use load_options::{
-    Allowed, Choice, Command, Options, Request, WordFault, WordRule, WordStop, allowed_texts,
-    command_of, parse_words, pieces_of, word_at,
+    Allowed, Choice, Command, Options, OutputFormat, Request, TABLE_NAME_LIMIT, WordFault,
+    WordRule, WordStop, allowed_texts, command_of, is_sqlite, parse_words, pieces_of, word_at,
 };
 use std::alloc::Global;
 use std::process::Abort;
@@ -12,7 +12,7 @@ use std::test::Fail;
 /// A line that is refused, the rule that it breaks first, and the place of the word.
 struct Refused(&'static str, WordRule, usize);
 
-const REFUSED: [Refused; 50] = [
+const REFUSED: [Refused; 67] = [
     Refused("", WordRule::NoCommand, 0),
     Refused("copy f.csv", WordRule::BadCommand, 0),
     Refused("load", WordRule::NoFile, 1),
@@ -103,6 +103,35 @@ const REFUSED: [Refused; 50] = [
     Refused("batch ,", WordRule::BadValue, 1),
     Refused("batch a.csv, threads=0", WordRule::BadValue, 1),
     Refused("batch a.csv,b.csv rows=2", WordRule::BadOption, 2),
+    Refused("convert f.csv to=SQLite", WordRule::BadValue, 2),
+    Refused("convert f.csv to=", WordRule::BadValue, 2),
+    Refused("convert f.csv to=sqlite table=", WordRule::BadValue, 3),
+    Refused(
+        "convert f.csv to=sqlite table=reject_scans",
+        WordRule::BadValue,
+        3,
+    ),
+    Refused(
+        "convert f.csv to=sqlite table=Reject_Errors",
+        WordRule::BadValue,
+        3,
+    ),
+    Refused("convert f.csv table=SQLite_1", WordRule::BadValue, 2),
+    Refused("convert f.csv table=a\0b", WordRule::BadValue, 2),
+    Refused("make 7 to=csv", WordRule::BadOption, 2),
+    Refused("convert f.csv table=orders", WordRule::Conflict, 2),
+    Refused("convert f.csv to=csv table=orders", WordRule::Conflict, 3),
+    Refused("load f.csv table=orders to=sqlite", WordRule::Conflict, 3),
+    Refused("load f.csv to=sqlite table=orders", WordRule::Conflict, 2),
+    Refused("load f.csv to=csv", WordRule::Conflict, 2),
+    Refused("summary f.csv to=sqlite", WordRule::Conflict, 2),
+    Refused("sniff f.csv threads=2 to=sqlite", WordRule::Conflict, 3),
+    Refused("batch a.csv,b.csv to=csv", WordRule::Conflict, 2),
+    Refused(
+        "convert f.csv comment=, table=orders delim=,",
+        WordRule::Conflict,
+        4,
+    ),
 ];
 
 fn check_refused(rt: &impl Abort, alloc: Global, row: &Refused) -> Result<(), Fail> {
@@ -158,6 +187,8 @@ fn check_other_defaults(rt: &impl Abort, options: &Options) {
     assert!(rt; !options.stats && !options.pipeline);
     assert_eq!(rt; options.names.len(), 0);
     assert_eq!(rt; options.types.len(), 0);
+    assert_eq!(rt; options.to, None);
+    assert_eq!(rt; options.table.as_slice(), b"data".as_slice());
 }
 
 #[test]
@@ -222,6 +253,72 @@ fn a_comment_byte_is_given(rt: HostRuntime) -> Result<(), Fail> {
         check_comment(&rt, rt.alloc(), row)?;
     }
     Ok(())
+}
+
+/// A line, the format that it gives, and the name of the table.
+struct Formatted(&'static str, Option<OutputFormat>, &'static [u8]);
+
+const FORMATTED: [Formatted; 7] = [
+    Formatted("convert f.csv", None, b"data"),
+    Formatted("convert f.csv to=csv", Some(OutputFormat::Csv), b"data"),
+    Formatted(
+        "convert f.csv to=sqlite",
+        Some(OutputFormat::Sqlite),
+        b"data",
+    ),
+    Formatted(
+        "batch a.csv,b.csv table=sqlite to=sqlite",
+        Some(OutputFormat::Sqlite),
+        b"sqlite",
+    ),
+    Formatted(
+        "convert f.csv to=sqlite table=reject_scan",
+        Some(OutputFormat::Sqlite),
+        b"reject_scan",
+    ),
+    Formatted(
+        "convert f.csv to=sqlite table=a\"b",
+        Some(OutputFormat::Sqlite),
+        b"a\"b",
+    ),
+    Formatted(
+        "convert f.csv to=sqlite table=DATA=1",
+        Some(OutputFormat::Sqlite),
+        b"DATA=1",
+    ),
+];
+
+fn check_format(rt: &impl Abort, alloc: Global, row: &Formatted) -> Result<(), Fail> {
+    let options = accepted(rt, alloc, row.0)?.options;
+    assert_eq!(rt; options.to, row.1, "{}", row.0);
+    assert_eq!(rt; is_sqlite(options.to), row.1 == Some(OutputFormat::Sqlite), "{}", row.0);
+    assert_eq!(rt; options.table.as_slice(), row.2, "{}", row.0);
+    Ok(())
+}
+
+#[test]
+fn words_name_a_format_and_a_table(rt: HostRuntime) -> Result<(), Fail> {
+    for row in &FORMATTED {
+        check_format(&rt, rt.alloc(), row)?;
+    }
+    Ok(())
+}
+
+fn check_table_name(rt: &impl Abort, alloc: Global, length: usize, good: bool) -> Result<(), Fail> {
+    let mut line = String::new(alloc);
+    line.push_str("convert f.csv to=sqlite table=")?;
+    for _ in 0..length {
+        line.push_str("n")?;
+    }
+    let words = words_of(alloc, &line)?;
+    assert_eq!(rt; parse_words(alloc, &words).is_ok(), good, "{length}");
+    Ok(())
+}
+
+#[test]
+fn a_table_name_has_at_most_1000_bytes(rt: HostRuntime) -> Result<(), Fail> {
+    check_table_name(&rt, rt.alloc(), TABLE_NAME_LIMIT, true)?;
+    check_table_name(&rt, rt.alloc(), 1_001, false)
 }
 
 /// A line, its command, the number of `make`, and the rows.
