@@ -6,6 +6,7 @@ mod classes;
 mod dialects;
 mod guesses;
 mod numbers;
+mod one_look;
 mod ranges;
 mod rejects;
 mod rows;
