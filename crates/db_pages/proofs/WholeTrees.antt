@@ -7,8 +7,8 @@ use Rattle.db_records.specs.Page.{joined, leaf_page, places}
 use Rattle.db_records.specs.Varint.{varint}
 use Rattle.db_records.proofs.Pages.{length-leaf_page, length-places}
 use Rattle.db_pages.specs.declared.child.Child.{Child}
-use Rattle.db_pages.specs.Grown.{Grown, grown, tree_of, with_leaf}
-use Rattle.db_pages.specs.Laid.{ended, is_none, next_place, nothing_laid, with_rows}
+use Rattle.db_pages.specs.Grown.{Grown, grown, tree_of, tree_over, with_leaf}
+use Rattle.db_pages.specs.Laid.{ended, is_empty_list, next_place, nothing_laid, with_rows}
 use Rattle.db_pages.specs.Levels.{dividers, grouped, inner_page, last_child, level_children, level_pages, levels_pages, page_above}
 use Rattle.db_pages.specs.Numbers.{four_bytes, number_of}
 use Rattle.db_pages.proofs.Counted.{AllShort, Adds, Counts, end-counts, nothing-counts, rows-add}
@@ -78,17 +78,18 @@ levels-whole (suc fuel) place children =
     ]
 
 leaf-whole : (g : Grown) → length g.pages % 4096 ≡ 0 → length (with_leaf g).pages % 4096 ≡ 0
-leaf-whole g whole = by-leaves (is_none g.leaves) refl
+leaf-whole g whole = by-leaves (is_empty_list g.leaves) refl
   where
     added : Grown
     added = record { base = g.base; pages = g.pages ++ leaf_page []; leaves = (record { place = next_place g.base g.pages; last = 0 }) ∷ [] }
 
-    by-leaves : (test : Bool) → is_none g.leaves ≡ test → length (with_leaf g).pages % 4096 ≡ 0
+    by-leaves : (test : Bool) → is_empty_list g.leaves ≡ test → length (with_leaf g).pages % 4096 ≡ 0
     by-leaves true is =
-        omega (arith, whole, ap (λ (x : Grown). length x.pages) (cond-true (is_none g.leaves) added g is), length-append g.pages (leaf_page []), length-leaf_page [] (omega arith))
-    by-leaves false is = omega (arith, whole, ap (λ (x : Grown). length x.pages) (cond-false (is_none g.leaves) added g is))
+        omega (arith, whole, ap (λ (x : Grown). length x.pages) (cond-true (is_empty_list g.leaves) added g is), length-append g.pages (leaf_page []), length-leaf_page [] (omega arith))
+    by-leaves false is = omega (arith, whole, ap (λ (x : Grown). length x.pages) (cond-false (is_empty_list g.leaves) added g is))
 
 pub tree-whole : (base : ℕ) (rows : List (List ℕ)) → length (tree_of base rows).bytes % 4096 ≡ 0
+unfolding tree_over
 tree-whole base rows =
     let a : Adds (with_rows base nothing_laid 1 rows) 0 (AllShort rows) = rows-add base rows nothing_laid 1 0 nothing-counts in
     let c : Counts (ended base (with_rows base nothing_laid 1 rows)) (0 + a.added) = end-counts base (with_rows base nothing_laid 1 rows) (0 + a.added) a.counts in

@@ -3,7 +3,7 @@ ghost use Rattle.std.specs.Prelude.{◌≡◌, ◌==◌, ◌+◌, ◌*◌, ◌�
 ghost use Rattle.db_records.specs.Cell.{cell_bytes};
 ghost use Rattle.db_records.specs.Page.{joined, leaf_page};
 ghost use Rattle.db_records.specs.Varint.{varint};
-ghost use Rattle.db_pages.specs.Laid.{is_none, long_cell};
+ghost use Rattle.db_pages.specs.Laid.{is_empty_list, long_cell};
 ghost use Rattle.db_pages.specs.Levels.{inner_page};
 ghost use Rattle.db_pages.specs.Numbers.{four_bytes, number_of};
 
@@ -67,7 +67,7 @@ impl Cells {
 
     #[inline(always)]
     pub(crate) fn is_empty(&self) -> bool
-        ensures { result ≡ is_none self.now }
+        ensures { result ≡ is_empty_list self.now }
     {
         self.sizes.is_empty()
     }

@@ -145,6 +145,7 @@ impl TablePages {
     }
 
     /// The table: its leaves, at least one, and the pages above them.
+    #[tactic(auto, unfolding(crate::specs::Grown::tree_over))]
     pub fn finish(self) -> Result<Tree, NoMemory>
         ensures { IfOk result (λ tree. tree ≡ tree_over self) }
     {
