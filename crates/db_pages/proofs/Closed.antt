@@ -25,6 +25,18 @@ pub holds-filled : (place : ℕ) (f : Filled) → 8 + 2 * length f.laid.cells + 
     holds_at place (closed f) ≡ ((f.base == place) || (length f.laid.pages == 4096 * length f.laid.leaves))
 holds-filled place f fits = holds-cells place f.base f.laid.pages f.laid.leaves f.laid.cells f.laid.last fits
 
+-- where the pages end that are left once the leaf under way has ended
+module _ (base : ℕ) (pages : List ℕ) (leaves : List Child) (last : ℕ) where
+  pub ended-there : (cells : List (List ℕ)) → is_empty_list cells ≡ true →
+      next_place base pages ≡ next_place base (closed (record { base = base; laid = record { pages = pages; leaves = leaves; cells = cells; last = last } })).pages
+  ended-there [] e = refl
+  ended-there (cell ∷ cells) e = absurd (false≢true e)
+
+  pub ends-behind : (cells : List (List ℕ)) → is_empty_list cells ≡ false → 8 + 2 * length cells + length (joined cells) ≤ 4096 →
+      next_place base pages + 1 ≡ next_place base (closed (record { base = base; laid = record { pages = pages; leaves = leaves; cells = cells; last = last } })).pages
+  ends-behind [] e fits = absurd (false≢true (sym e))
+  ends-behind (cell ∷ cells) e fits = omega (arith, length-append pages (leaf_page (cell ∷ cells)), length-leaf_page (cell ∷ cells) fits)
+
 -- an empty leaf behind pages that have none
 pub first_leaf : (g : Grown) (page : List ℕ) (leaves : List Child) (place : ℕ) → is_empty_list g.leaves ≡ true → place ≡ next_place g.base g.pages →
     page ≡ leaf_page [] → leaves ≡ (record { place = place; last = 0 }) ∷ [] → behind g (record { base = place; pages = page; leaves = leaves }) ≡ with_leaf g

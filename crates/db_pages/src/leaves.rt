@@ -155,6 +155,21 @@ impl Leaves {
         })
     }
 
+    /// The place of the next page, once the leaf under way has ended.
+    pub fn next_place(&self) -> Result<u64, NoMemory>
+        ensures { IfOk result (λ place. place ≡ next_place self.now.base (closed self.now).pages) }
+    {
+        self.cells.fit();
+        let place = next_place(self.base, &self.pages)?;
+        if self.cells.is_empty() {
+            return Ok(place);
+        }
+        if place == u64::MAX {
+            return Err(NoMemory);
+        }
+        Ok(place + 1)
+    }
+
     /// Whether the pages, once the leaf under way has ended, hold behind so many others: they were written there, or no record
     /// goes on in another page.
     pub fn holds_at(&self, place: u64) -> bool

@@ -1,7 +1,7 @@
 -- Rows of scans and rejects, one after another.
 use Rattle.std.proofs.Common.{◌≡◌, ℕ, suc, ◌+◌, ◌<◌, List, [], ◌∷◌, ◌++◌, length, map, take, drop, get_or, sym, ◌∙◌, ap, arith, append-nil, drop-cons, Some}
-use Rattle.std.specs.Prelude.{flat_map, slice_get}
-use Rattle.std.proofs.lemmas.List.{take_more}
+use Rattle.std.specs.Prelude.{slice_get}
+use Rattle.std.proofs.lemmas.List.{map-append, take_more}
 use Rattle.sqlite_value.specs.Order.{Row}
 use Rattle.csv_writer.proofs.Lines.{flat_map-append}
 use Rattle.csv_sniffer.specs.declared.found.Sniffed.{Sniffed}
@@ -9,7 +9,7 @@ use Rattle.file_list.specs.declared.batch.FileBook.{FileBook}
 use Rattle.db_records.specs.Record.{record_bytes}
 use Rattle.db_writer.specs.Rejects.{reject_row, reject_rows, scan_row, scan_rows}
 use Rattle.db_writer.specs.Written.{Written, with_records}
-use Rattle.db_writer.proofs.RowsLaid.{map-append, records-append, take-at}
+use Rattle.db_writer.proofs.RowsLaid.{records-append, take-at}
 
 -- the row of one thing was appended to those before
 pub one-appended : {X : Type 0} (f : X → Row) (xs : List X) (k : ℕ) (x : X) (w into new : Written) → slice_get xs k ≡ Some x → into ≡ with_records w (map record_bytes (map f (take k xs))) →

@@ -1,28 +1,16 @@
 -- Rows that are laid out one after another.
-use Rattle.std.proofs.Common.{◌≡◌, ℕ, zero, suc, ◌+◌, ◌-◌, ◌%◌, ◌<◌, ◌≤◌, cond, List, [], ◌∷◌, ◌++◌, length, map, take, drop, get_or, refl, sym, ◌∙◌, ap, arith, append_assoc, append-nil, length-append, Some}
-use Rattle.std.specs.Prelude.{◌==◌, flat_map, slice_get, slice_range}
+use Rattle.std.proofs.Common.{◌≡◌, ℕ, zero, suc, ◌+◌, ◌-◌, ◌<◌, ◌≤◌, List, [], ◌∷◌, ◌++◌, length, map, take, drop, get_or, sym, ◌∙◌, ap, arith, append_assoc, append-nil, length-append, Some}
+use Rattle.std.specs.Prelude.{flat_map, slice_get, slice_range}
 use Rattle.sqlite_value.specs.declared.value.Value.{Value}
 use Rattle.sqlite_value.specs.Order.{Row}
 use Rattle.value_types.specs.Datum.{Datum}
+use Rattle.std.proofs.lemmas.List.{map-append}
+use Rattle.db_pages.proofs.Rows.{with_rows-append}
 use Rattle.csv_writer.proofs.Lines.{flat_map-append}
 use Rattle.csv_writer.proofs.Ranges.{range-more, range-append}
 use Rattle.db_records.specs.Record.{type_bytes, value_bytes, record_bytes}
-use Rattle.db_pages.specs.Laid.{Laid, ended, with_row, with_rows}
 use Rattle.db_writer.specs.Stored.{stored_cell, stored_row}
 use Rattle.db_writer.specs.Written.{Written, no_values, with_value, with_values, with_records, records_of}
-
--- rows that are laid out behind others are laid out with them
-with_rows-append : (base first : ℕ) (laid : Laid) (rows more : List (List ℕ)) → with_rows base (with_rows base laid first rows) (first + length rows) more ≡ with_rows base laid first (rows ++ more)
-with_rows-append base first laid [] more = let none : first + 0 ≡ first = omega arith in ap (λ n. with_rows base laid n more) none
-with_rows-append base first laid (row ∷ rows) more =
-    let next : Laid = with_row base laid first row in
-    let to : Laid = cond (first % 8192 == 0) (ended base next) next in
-    let count : first + suc (length rows) ≡ (first + 1) + length rows = omega arith in
-    ap (λ n. with_rows base (with_rows base to (first + 1) rows) n more) count ∙ with_rows-append base (first + 1) to rows more
-
-pub map-append : {X A : Type 0} (f : X → A) (xs ys : List X) → map f (xs ++ ys) ≡ map f xs ++ map f ys
-map-append f [] ys = refl
-map-append f (x ∷ xs) ys = ap (λ rest. f x ∷ rest) (map-append f xs ys)
 
 -- ---- values
 
@@ -68,7 +56,7 @@ records-append w records more =
     let count : w.next + length records + length more ≡ w.next + length (records ++ more) = omega (arith, length-append records more) in
     λ i. record { rows = record { base = w.rows.base; laid = with_rows-append w.rows.base w.next w.rows.laid records more i }; next = count i; values = no_values }
 
-records_of-append : (rows more : List (List Datum)) → records_of (rows ++ more) ≡ records_of rows ++ records_of more
+pub records_of-append : (rows more : List (List Datum)) → records_of (rows ++ more) ≡ records_of rows ++ records_of more
 records_of-append rows more = ap (map record_bytes) (map-append stored_row rows more) ∙ map-append record_bytes (map stored_row rows) (map stored_row more)
 
 -- a row was appended to those before

@@ -4,4 +4,5 @@ pub mod Definitions
 pub mod Rejects
 pub mod Written
 pub mod Field
+pub mod Groups
 pub mod Database

@@ -1,7 +1,7 @@
 // The definitions of tables.
 ghost use Rattle.std.specs.Prelude.{◌≡◌, ◌++◌, ◌∷◌, [], length, zip, IfOk, OnOk};
 ghost use Rattle.csv_writer.specs.Quoting.{doubled, quoted};
-ghost use Rattle.db_writer.specs.Definitions.{columns_text, create_text, separator};
+ghost use Rattle.db_writer.specs.Definitions.{columns_text, create_text, errors_text, scans_text, separator};
 ghost use Rattle.db_writer.specs.Naming.{database_names};
 
 use crate::naming::database_names;
@@ -10,12 +10,18 @@ use std::alloc::Global;
 use value_types::{Names, Types, type_name};
 
 /// The definition of the table of scans.
-pub(crate) const SCANS: &[u8] =
-    b"CREATE TABLE \"reject_scans\" (\"scan_id\" INTEGER, \"file_id\" INTEGER, \"file_path\" TEXT, \"delimiter\" TEXT, \"quote\" TEXT, \"escape\" TEXT, \"newline_delimiter\" TEXT, \"skip_rows\" INTEGER, \"has_header\" TEXT, \"columns\" INTEGER)";
+pub(crate) fn scans_text() -> &'static [u8]
+    ensures { result.now ≡ scans_text }
+{
+    b"CREATE TABLE \"reject_scans\" (\"scan_id\" INTEGER, \"file_id\" INTEGER, \"file_path\" TEXT, \"delimiter\" TEXT, \"quote\" TEXT, \"escape\" TEXT, \"newline_delimiter\" TEXT, \"skip_rows\" INTEGER, \"has_header\" TEXT, \"columns\" INTEGER)"
+}
 
 /// The definition of the table of rejects.
-pub(crate) const ERRORS: &[u8] =
-    b"CREATE TABLE \"reject_errors\" (\"scan_id\" INTEGER, \"file_id\" INTEGER, \"line\" INTEGER, \"line_byte_position\" INTEGER, \"byte_position\" INTEGER, \"column_idx\" INTEGER, \"column_name\" TEXT, \"error_type\" TEXT, \"csv_line\" TEXT, \"error_message\" TEXT)";
+pub(crate) fn errors_text() -> &'static [u8]
+    ensures { result.now ≡ errors_text }
+{
+    b"CREATE TABLE \"reject_errors\" (\"scan_id\" INTEGER, \"file_id\" INTEGER, \"line\" INTEGER, \"line_byte_position\" INTEGER, \"byte_position\" INTEGER, \"column_idx\" INTEGER, \"column_name\" TEXT, \"error_type\" TEXT, \"csv_line\" TEXT, \"error_message\" TEXT)"
+}
 
 /// Appends bytes.
 fn append(into: &mut Vec<u8>, bytes: &[u8]) -> Result<(), NoMemory>

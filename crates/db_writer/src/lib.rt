@@ -9,6 +9,7 @@
 mod database;
 mod definitions;
 mod fields;
+mod groups;
 mod naming;
 mod rejects;
 mod row_writer;

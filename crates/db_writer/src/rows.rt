@@ -68,11 +68,13 @@ pub(crate) fn write_rows(
     to: usize,
     base: u64,
 ) -> Result<Leaves, NoMemory>
-    requires ordered { from < to }
+    requires ordered { from ≤ to }
+    requires within { to ≤ length table.now.rows }
     requires writable { All IsWritableRow table.now.rows }
     ensures ok { IfOk result (λ leaves. leaves ≡ filled base (from + 1) (records_of (slice_range table.now.rows from to))) }
 {
-    let mut writer = RowWriter::new(alloc, base, from as u64 + 1);
+    let first = (from as u64).checked_add(1).ok_or(NoMemory)?;
+    let mut writer = RowWriter::new(alloc, base, first);
     push_rows(&mut writer, table, from, to)?;
     Ok(writer.into_leaves())
 }

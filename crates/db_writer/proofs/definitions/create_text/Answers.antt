@@ -1,5 +1,4 @@
-use Rattle.std.proofs.Common.{[], length, map, ◌∙◌, ap, arith}
-use Rattle.db_writer.specs.Naming.{clean_name}
+use Rattle.std.proofs.Common.{length, ◌∙◌, ap}
 use Rattle.db_writer.proofs.NamesApart.{length-database_names}
 use Rattle.db_writer.proofs.definitions.create_text.Goals as goal
 

@@ -1,4 +1,4 @@
-use Rattle.std.proofs.Common.{◌≡◌, ℕ, ◌+◌, List, [], ◌∷◌, ◌++◌, map, drop, reverse, length, sym, ◌∙◌, ap, arith, length-append}
+use Rattle.std.proofs.Common.{◌≡◌, ℕ, ◌+◌, List, [], ◌∷◌, ◌++◌, map, drop, reverse, length, sym, ◌∙◌, ap, length-append}
 use Rattle.std.proofs.lemmas.List.{length-reverse}
 use Rattle.load_options.specs.Texts.{is_among}
 use Rattle.csv_sniffer.specs.ColumnNames.{first_free}
