@@ -58,12 +58,14 @@ fn threads_agree<R: Threads + Wait + Sync>(
     let one = reply_with(rt, alloc, words, &[stored, "threads=1"], &FILES)?;
     let two = reply_with(rt, alloc, words, &[stored, "threads=2"], &FILES)?;
     let four = reply_with(rt, alloc, words, &[stored, "threads=4"], &FILES)?;
-    Ok(one.status() == 0
-        && two.status() == 0
-        && four.status() == 0
-        && is_database(one.text())
-        && one.text() == two.text()
-        && one.text() == four.text())
+    Ok(
+        one.status() == 0
+            && two.status() == 0
+            && four.status() == 0
+            && is_database(one.text())
+            && one.text() == two.text()
+            && one.text() == four.text(),
+    )
 }
 
 #[test]
@@ -76,7 +78,12 @@ fn a_database_does_not_hang_on_threads(rt: HostRuntime) -> Result<(), Fail> {
 #[test]
 fn a_database_has_the_rows_of_all_files(rt: HostRuntime) -> Result<(), Fail> {
     let reply = reply_with(&rt, rt.alloc(), BATCH, &["store_rejects=true"], &FILES)?;
-    assert!(rt; holds(reply.text(), b"CREATE TABLE \"orders\" (\"id\" BIGINT, \"note\" VARCHAR)"));
+    assert!(rt;
+        holds(
+            reply.text(),
+            b"CREATE TABLE \"orders\" (\"id\" BIGINT, \"note\" VARCHAR)"
+        )
+    );
     assert!(rt; holds(reply.text(), b"second"));
     assert!(rt; holds(reply.text(), b"seventh"));
     Ok(())

@@ -20,7 +20,10 @@ pub fn push_cell(cell: Cell<'_>, out: &mut Vec<u8>) -> Result<(), NoMemory> {
         Cell::Value(Value::Bool(truth)) => push_text(if truth { b"true" } else { b"false" }, out),
         Cell::Value(Value::Date(day)) => push_text(Buffer::new().format(day).as_bytes(), out),
         Cell::Value(Value::Time(micros)) => push_text(Buffer::new().format(micros).as_bytes(), out),
-        Cell::Value(Value::Stamp(micros)) => push_text(Buffer::new().format(micros).as_bytes(), out),
+        Cell::Value(Value::Stamp(micros)) => push_text(
+            Buffer::new().format(micros).as_bytes(),
+            out,
+        ),
         Cell::Text(text) => push_text(text, out),
     }
 }

@@ -291,7 +291,12 @@ const FORMATTED: [Formatted; 7] = [
 fn check_format(rt: &impl Abort, alloc: Global, row: &Formatted) -> Result<(), Fail> {
     let options = accepted(rt, alloc, row.0)?.options;
     assert_eq!(rt; options.to, row.1, "{}", row.0);
-    assert_eq!(rt; is_sqlite(options.to), row.1 == Some(OutputFormat::Sqlite), "{}", row.0);
+    assert_eq!(rt;
+        is_sqlite(options.to),
+        row.1 == Some(OutputFormat::Sqlite),
+        "{}",
+        row.0
+    );
     assert_eq!(rt; options.table.as_slice(), row.2, "{}", row.0);
     Ok(())
 }

@@ -88,7 +88,11 @@ const FRONTS: [Front; 8] = [
         "2024-02-29 23:59:59,and so on",
         Some(19),
     ),
-    Front(ColumnType::Timestamp, "2024-02-29,and so on further on", None),
+    Front(
+        ColumnType::Timestamp,
+        "2024-02-29,and so on further on",
+        None,
+    ),
     Front(ColumnType::Varchar, "text,and so on", None),
 ];
 
