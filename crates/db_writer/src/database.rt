@@ -7,7 +7,7 @@ ghost use Rattle.db_writer.specs.Written.{records_of};
 ghost use Rattle.db_writer.specs.Database.{database, errors_table, rows_table, scans_table, with_tabled};
 
 use crate::definitions::{create_text, errors_text, scans_text};
-use crate::groups::{cut_blocks, push_groups, workers_for, write_groups};
+use crate::groups::{cut_blocks, push_groups, workers_for, write_again, write_groups};
 use crate::rejects::{push_rejects, push_scans};
 use crate::row_writer::RowWriter;
 use column_store::Table;
@@ -50,6 +50,7 @@ fn write_pages<R: Threads + Sync>(
     let count = rows.rows();
     let mut groups = cut_blocks(alloc, count, workers_for(count, threads), base)?;
     write_groups(rt, alloc, rows, groups.as_mut_slice());
+    write_again(rt, alloc, rows, groups.as_mut_slice(), base)?;
     let mut pages = TablePages::new(alloc, base);
     push_groups(alloc, rows, &mut pages, groups)?;
     Ok(pages)

@@ -1,6 +1,7 @@
 // Groups of blocks of rows, each written by one worker.
-ghost use Rattle.std.specs.Prelude.{◌≡◌, ◌<◌, ◌≤◌, ◌%◌, ◌⊎◌, ℕ, [], length, slice_index_or, slice_range, All, IfOk, OnOk};
+ghost use Rattle.std.specs.Prelude.{◌≡◌, ◌<◌, ◌≤◌, ◌%◌, ◌⊎◌, ℕ, List, [], length, slice_index_or, slice_range, All, IfOk, OnOk};
 ghost use Rattle.csv_writer.specs.Writable.{IsWritableRow};
+ghost use Rattle.value_types.specs.Datum.{Datum};
 ghost use Rattle.db_pages.specs.Grown.{grown};
 ghost use Rattle.db_writer.specs.Groups.{AreBlocks, HoldsRows, IsUnwritten, WritesGroup};
 ghost use Rattle.db_writer.specs.Written.{records_of};
@@ -96,6 +97,55 @@ pub(crate) fn write_groups<R: Threads + Sync>(
             ensures { WritesGroup table.entry.now.rows group.old group.new }
         { write_group(alloc, table, group) },
     );
+}
+
+/// Finds where a group stands, and where the next one begins. Leaves that don't hold there are let go.
+fn place_group(group: &mut Group, place: u64) -> Result<u64, NoMemory>
+    ensures { (rows : List (List Datum)) → HoldsRows rows group.old → WritesGroup rows group.old group.new }
+{
+    let Some(leaves) = &group.leaves else {
+        return Err(NoMemory);
+    };
+    let pages = leaves.next_place()?.saturating_sub(group.base);
+    let next = place.checked_add(pages).ok_or(NoMemory)?;
+    if !leaves.holds_at(place) {
+        group.base = place;
+        group.leaves = None;
+    }
+    Ok(next)
+}
+
+/// Finds where all groups stand, the first behind so many pages.
+fn place_groups(groups: &mut [Group], base: u64) -> Result<(), NoMemory>
+    ensures { (rows : List (List Datum)) (k : ℕ) (d : _) → k < length groups.old → HoldsRows rows (slice_index_or groups.old k d)
+        → WritesGroup rows (slice_index_or groups.old k d) (slice_index_or groups.new k d) }
+{
+    let mut place = base;
+    for index in 0..groups.len() {
+        place = place_group(&mut groups[index], place)?;
+    }
+    Ok(())
+}
+
+/// Writes those groups once more, side by side again, whose leaves don't hold where they stand: a record that goes on in
+/// other pages names them.
+pub(crate) fn write_again<R: Threads + Sync>(
+    rt: &R,
+    alloc: Global,
+    table: &Table,
+    groups: &mut [Group],
+    base: u64,
+) -> Result<(), NoMemory>
+    requires some { 0 < length groups.old }
+    requires groups { All (HoldsRows table.now.rows) groups.old }
+    requires writable { All IsWritableRow table.now.rows }
+    ensures { (k : ℕ) (d : _) → k < length groups.old → WritesGroup table.now.rows (slice_index_or groups.old k d) (slice_index_or groups.new k d) }
+{
+    place_groups(groups, base)?;
+    if groups.iter().any(|group| group.leaves.is_none()) {
+        write_groups(rt, alloc, table, groups);
+    }
+    Ok(())
 }
 
 /// Appends a group behind the rows before it: its leaves as they were written, where they hold there, else they are written
