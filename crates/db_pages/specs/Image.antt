@@ -1,5 +1,5 @@
 -- A database of tables (SQLite, "Database File Format", sections 1.3 and 2.6).
-use Rattle.std.specs.Prelude.{ℕ, ◌+◌, ◌-◌, ◌/◌, ◌^◌, pos, List, [], ◌∷◌, ◌++◌, codes, length, map, take, drop, replicate, nat_le, if◌then◌else◌}
+use Rattle.std.specs.Prelude.{ℕ, ◌-◌, ◌^◌, pos, List, [], ◌∷◌, ◌++◌, codes, length, map, take, drop, replicate, nat_le, if◌then◌else◌}
 use Rattle.sqlite_value.specs.declared.value.Value.TheVariants.{Int, Text}
 use Rattle.sqlite_value.specs.Order.{Row}
 use Rattle.db_records.specs.Record.{record_bytes}
@@ -30,14 +30,14 @@ listed base (table ∷ tables) =
     list_row table.name table.sql tree.root ∷ listed (next_place base tree.bytes) tables
 
 -- pages of 4096 bytes, no log, UTF-8, schema format 4; a root without cells, whose child is the root of the list of tables
-abbrev pub first_page : ℕ → ℕ → List ℕ
+unfoldable pub first_page : ℕ → ℕ → List ℕ
 first_page pages root =
     codes "SQLite format 3" ++ (0 ∷ 16 ∷ 0 ∷ 1 ∷ 1 ∷ 0 ∷ 64 ∷ 32 ∷ 32 ∷ []) ++ four_bytes 1 ++ four_bytes pages ++ four_bytes 0 ++ four_bytes 0
     ++ four_bytes 1 ++ four_bytes 4 ++ replicate 8 0 ++ four_bytes 1 ++ replicate 32 0 ++ four_bytes 1 ++ four_bytes 3040000
     ++ (5 ∷ 0 ∷ 0 ∷ 0 ∷ 0 ∷ 16 ∷ 0 ∷ 0 ∷ []) ++ four_bytes root ++ replicate 3984 0
 
 -- the page of the locks stands where byte 2 ^ 30 is
-abbrev pub with_lock_page : List ℕ → List ℕ
+unfoldable pub with_lock_page : List ℕ → List ℕ
 with_lock_page bytes =
     if nat_le (length bytes) (2 ^ 30) then bytes else take (2 ^ 30) bytes ++ (replicate 4096 0 ++ drop (2 ^ 30) bytes)
 
@@ -58,7 +58,7 @@ abbrev pub imaged : List Tabled → Imaged
 imaged tables = record { trees = trees_bytes 1 tables; records = map record_bytes (listed 1 tables) }
 
 -- the file: the first page, the trees, and that of the list of tables behind them
-abbrev pub image_over : Imaged → List ℕ
+unfoldable pub image_over : Imaged → List ℕ
 image_over parts =
     let base = next_place 1 parts.trees in
     let list = tree_of base parts.records in

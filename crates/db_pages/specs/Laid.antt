@@ -18,9 +18,9 @@ pub record Laid : Type 0 where
 abbrev pub nothing_laid : Laid
 nothing_laid = record { pages = []; leaves = []; cells = []; last = 0 }
 
-abbrev pub is_none : {A : Type 0} → List A → Bool
-is_none [] = true
-is_none (x ∷ xs) = false
+abbrev pub is_empty_list : {A : Type 0} → List A → Bool
+is_empty_list [] = true
+is_empty_list (x ∷ xs) = false
 
 -- the place of the next page, behind `base` others
 abbrev pub next_place : ℕ → List ℕ → ℕ
@@ -38,7 +38,7 @@ finished base laid =
 
 -- the same, where it has a cell
 abbrev pub ended : ℕ → Laid → Laid
-ended base laid = if is_none laid.cells then laid else finished base laid
+ended base laid = if is_empty_list laid.cells then laid else finished base laid
 
 -- with room for a cell of so many bytes: a leaf without it is finished
 abbrev pub roomy : ℕ → Laid → ℕ → Laid

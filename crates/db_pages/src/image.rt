@@ -3,6 +3,10 @@ ghost use Rattle.std.specs.Prelude.{◌≡◌, IfOk, OnOk};
 ghost use Rattle.db_pages.specs.Image.{image_over, no_table, with_table};
 ghost use Rattle.db_pages.specs.Laid.{next_place};
 
+use crate::first_page::first_page;
+use crate::list::{list_row, list_tree};
+use crate::locks::join_pages;
+use crate::number::{PAGE, number_of};
 use crate::tree::Tree;
 use csv_source::NoMemory;
 use std::alloc::Global;
@@ -48,20 +52,44 @@ impl Image {
     pub fn next_place(&self) -> u64
         ensures { result ≡ next_place 1 self.now.trees }
     {
-        1 + (self.len / 4096) as u64
+        1 + (self.len / PAGE) as u64
     }
 
     /// Appends a table without a copy of its pages. It has to have been written behind the pages so far.
     pub fn push(&mut self, name: &[u8], sql: &[u8], tree: Tree) -> Result<(), NoMemory>
         ensures ok { OnOk result (self.new ≡ with_table self.old name.now sql.now tree) }
     {
-        Err(NoMemory)
+        let Tree {
+            mut pages,
+            len,
+            root,
+        } = tree;
+        let row = list_row(self.alloc, name, sql, root)?;
+        let len = self.len.checked_add(len).ok_or(NoMemory)?;
+        self.records.push(row)?;
+        self.trees.append(&mut pages)?;
+        self.len = len;
+        Ok(())
     }
 
     /// The file. No page is copied but those of one piece, round its first GiB.
     pub fn finish(self) -> Result<Pieces, NoMemory>
         ensures { IfOk result (λ text. text ≡ image_over self) }
     {
-        Err(NoMemory)
+        let base = self.next_place();
+        let Image {
+            alloc,
+            len: _,
+            trees,
+            records,
+        } = self;
+        let list = list_tree(alloc, base, &records)?;
+        let pages = base.checked_add((list.len / PAGE) as u64).ok_or(NoMemory)?;
+        let root = number_of(list.root)?;
+        let first = first_page(alloc, number_of(pages - 1)?, root)?;
+        let mut pieces = trees;
+        let mut last = list.pages;
+        pieces.append(&mut last)?;
+        join_pages(alloc, first, pieces)
     }
 }

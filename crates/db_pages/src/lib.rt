@@ -6,9 +6,19 @@
 //! of tables, and the first page in front. What is written is a function of the rows, the names and the definitions alone.
 #![tactic(auto)]
 
+mod cells;
+mod chain;
 mod child;
+mod closed_leaves;
+mod first_page;
 mod image;
+pub mod laws;
 mod leaves;
+mod levels;
+mod list;
+mod locks;
+mod number;
+mod packing;
 mod table_pages;
 mod tree;
 

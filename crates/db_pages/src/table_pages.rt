@@ -1,14 +1,37 @@
 // The pages of a table, joined.
-ghost use Rattle.std.specs.Prelude.{◌≡◌, [], true, IfOk, OnOk};
-ghost use Rattle.db_pages.specs.Grown.{behind, closed, grown, holds_at, tree_over};
+ghost use Rattle.std.specs.Prelude.{◌≡◌, ◌++◌, [], true, map, IfOk, OnOk};
+ghost use Rattle.db_pages.specs.Grown.{behind, closed, grown, holds_at, moved, tree_over, with_leaf};
 ghost use Rattle.db_pages.specs.Laid.{next_place};
 
+use crate::cells::Cells;
 use crate::child::Child;
+use crate::closed_leaves::ClosedLeaves;
 use crate::leaves::Leaves;
+use crate::levels::push_levels;
+use crate::number::PAGE;
 use crate::tree::Tree;
 use csv_source::NoMemory;
 use std::alloc::Global;
 use std::marker::Model;
+
+/// Levels above the leaves: five stand on more pages than a file has.
+const LEVELS: u32 = 6;
+
+/// Appends leaves that were written behind `from` pages and stand behind `to`.
+fn push_moved(into: &mut Vec<Child>, leaves: &[Child], from: u64, to: u64) -> Result<(), NoMemory>
+    ensures ok { OnOk result (into.new.items ≡ into.old.items ++ map (moved from to) leaves.now) }
+{
+    for child in leaves {
+        let place = to
+            .checked_add(child.place.saturating_sub(from))
+            .ok_or(NoMemory)?;
+        into.push(Child {
+            place,
+            last: child.last,
+        })?;
+    }
+    Ok(())
+}
 
 /// The leaves of a table, as workers wrote them one behind another. After an error it may only be let go.
 #[derive(Drop)]
@@ -47,11 +70,51 @@ impl TablePages {
         }
     }
 
+    /// The pages of one writer, once their last leaf has ended.
+    pub fn of(alloc: Global, leaves: Leaves) -> Result<TablePages, NoMemory>
+        ensures { IfOk result (λ table. table ≡ closed leaves) }
+    {
+        let ClosedLeaves {
+            base,
+            pages,
+            leaves,
+        } = leaves.close()?;
+        let len = pages.len();
+        base.checked_add((len / PAGE) as u64).ok_or(NoMemory)?;
+        let mut all = Vec::new(alloc);
+        all.push(pages)?;
+        Ok(TablePages {
+            alloc,
+            base,
+            len,
+            pages: all,
+            leaves,
+        })
+    }
+
     /// The place of the next page, counted from 0 without the page of the locks.
     pub fn next_place(&self) -> u64
         ensures { result ≡ next_place self.now.base self.now.pages }
     {
-        self.base + (self.len / 4096) as u64
+        self.base + (self.len / PAGE) as u64
+    }
+
+    /// Appends pages that have ended.
+    fn push_closed(&mut self, next: ClosedLeaves) -> Result<(), NoMemory>
+        ensures ok { OnOk result (self.new ≡ behind self.old next) }
+    {
+        let place = self.next_place();
+        let ClosedLeaves {
+            base,
+            pages,
+            leaves,
+        } = next;
+        let len = self.len.checked_add(pages.len()).ok_or(NoMemory)?;
+        self.base.checked_add((len / PAGE) as u64).ok_or(NoMemory)?;
+        push_moved(&mut self.leaves, &leaves, base, place)?;
+        self.pages.push(pages)?;
+        self.len = len;
+        Ok(())
     }
 
     /// Appends pages without a copy, once their last leaf has ended.
@@ -59,13 +122,46 @@ impl TablePages {
         requires holds { holds_at (next_place self.old.base self.old.pages) (closed leaves) ≡ true }
         ensures ok { OnOk result (self.new ≡ behind self.old (closed leaves)) }
     {
-        Err(NoMemory)
+        self.push_closed(leaves.close()?)
+    }
+
+    /// Appends an empty leaf, where there is none.
+    fn push_first_leaf(&mut self) -> Result<(), NoMemory>
+        ensures ok { OnOk result (self.new ≡ with_leaf self.old) }
+    {
+        if !self.leaves.is_empty() {
+            return Ok(());
+        }
+        let place = self.next_place();
+        let mut page = Vec::new(self.alloc);
+        Cells::new(self.alloc).push_leaf(&mut page)?;
+        let mut leaves = Vec::new(self.alloc);
+        leaves.push(Child { place, last: 0 })?;
+        self.push_closed(ClosedLeaves {
+            base: place,
+            pages: page,
+            leaves,
+        })
     }
 
     /// The table: its leaves, at least one, and the pages above them.
+    #[tactic(auto, unfolding(crate::specs::Grown::tree_over))]
     pub fn finish(self) -> Result<Tree, NoMemory>
         ensures { IfOk result (λ tree. tree ≡ tree_over self) }
     {
-        Err(NoMemory)
+        let mut table = self;
+        table.push_first_leaf()?;
+        let mut above = Vec::new(table.alloc);
+        let root = push_levels(
+            &mut above,
+            table.alloc,
+            LEVELS,
+            table.next_place(),
+            &table.leaves,
+        )?;
+        let len = table.len.checked_add(above.len()).ok_or(NoMemory)?;
+        let mut pages = table.pages;
+        pages.push(above)?;
+        Ok(Tree { pages, len, root })
     }
 }

@@ -5,6 +5,7 @@ use std::marker::Model;
 #[derive(Drop)]
 pub struct Tree {
     pub(crate) pages: Vec<Vec<u8>>,
+    pub(crate) len: usize,
     pub(crate) root: u64,
 }
 
@@ -14,5 +15,9 @@ impl Model for Tree {
 
     ghost Value = { TreeBytes };
 
+    ghost use Rattle.std.specs.Prelude.{◌≡◌, length};
+
     ghost view = { λ t. record { bytes = flat_map (λ pages. pages.items) t.pages.items; root = t.root } };
+
+    ghost invariant = { λ t. length (flat_map (λ pages. pages.items) t.pages.items) ≡ t.len };
 }

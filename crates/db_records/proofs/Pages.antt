@@ -16,7 +16,7 @@ use Rattle.sqlite_format.specs.Page.{content_start, cell_end, IsPage, HasFreeCha
 use Rattle.db_records.specs.Page.{joined, places, content_at, leaf_page}
 use Rattle.db_records.specs.Laws.{leaf_kind, HoldsCells}
 
-length-places : (at : ℕ) (cells : List (List ℕ)) → length (places at cells) ≡ 2 * length cells
+pub length-places : (at : ℕ) (cells : List (List ℕ)) → length (places at cells) ≡ 2 * length cells
 length-places at [] = refl
 length-places at (cell ∷ cells) = omega (arith, length-places (at + length cell) cells)
 

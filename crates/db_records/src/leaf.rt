@@ -1,8 +1,8 @@
 // A leaf of a table.
-ghost use Rattle.std.specs.Prelude.{◌≡◌, ◌+◌, ◌*◌, ◌≤◌, ◌++◌, length, map, replicate, OnOk};
+ghost use Rattle.std.specs.Prelude.{◌≡◌, ◌+◌, ◌*◌, ◌≤◌, ◌++◌, length, map, OnOk};
 ghost use Rattle.db_records.specs.Page.{content_at, joined, leaf_page, places};
 
-use crate::appending::append;
+use crate::appending::{append, push_zeros};
 use csv_source::NoMemory;
 /// How many bytes cells have together.
 fn joined_len(cells: &[&[u8]]) -> usize
@@ -40,13 +40,6 @@ fn push_joined(into: &mut Vec<u8>, cells: &[&[u8]]) -> Result<(), NoMemory>
         }
         [] => Ok(()),
     }
-}
-
-fn push_zeros(into: &mut Vec<u8>, count: usize) -> Result<(), NoMemory>
-    requires { count ≤ 4096 }
-    ensures ok { OnOk result (into.new.items ≡ into.old.items ++ replicate count 0) }
-{
-    append(into, &[0u8; 4096][..count])
 }
 
 /// Appends a leaf of cells that fit into it.

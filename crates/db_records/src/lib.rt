@@ -14,8 +14,9 @@ mod record;
 mod values;
 mod varint;
 
-pub use cell::push_cell;
+pub use appending::{append, push_zeros};
+pub use cell::{cell_len, push_cell};
 pub use leaf::push_leaf;
 pub use record::push_record;
 pub use values::{push_blob, push_integer, push_null, push_text};
-pub use varint::push_varint;
+pub use varint::{push_varint, varint_len};

@@ -38,6 +38,7 @@ pub fn push_blob(types: &mut Vec<u8>, body: &mut Vec<u8>, blob: &[u8]) -> Result
 }
 
 /// The type of a number.
+#[inline(always)]
 fn int_serial(number: i64) -> u64
     ensures value { result ≡ int_serial number }
     ensures small { result < 10 }
@@ -65,6 +66,7 @@ fn int_serial(number: i64) -> u64
 }
 
 /// How many bytes a number of a type takes.
+#[inline(always)]
 fn int_size(serial: u64) -> u64
     requires { serial < 10 }
     ensures { result ≡ serial_size serial }
@@ -78,6 +80,7 @@ fn int_size(serial: u64) -> u64
 }
 
 /// Appends the type of a number and its bytes.
+#[inline(always)]
 pub fn push_integer(types: &mut Vec<u8>, body: &mut Vec<u8>, number: i64) -> Result<(), NoMemory>
     ensures types { OnOk result (types.new.items ≡ types.old.items ++ type_bytes (Int number)) }
     ensures body { OnOk result (body.new.items ≡ body.old.items ++ value_bytes (Int number)) }

@@ -1,5 +1,5 @@
 // Numbers of one to eight bytes, the most significant digits first.
-ghost use Rattle.std.specs.Prelude.{◌≡◌, ◌++◌, OnOk};
+ghost use Rattle.std.specs.Prelude.{◌≡◌, ◌≤◌, ◌++◌, length, OnOk};
 ghost use Rattle.db_records.specs.Varint.{digits_before, marked, varint};
 
 use crate::appending::append;
@@ -17,6 +17,7 @@ fn push_marked(into: &mut Vec<u8>, count: u32, value: u64) -> Result<(), NoMemor
 }
 
 /// How many digits stand before the last one.
+#[inline(always)]
 fn digits_before(value: u64) -> u32
     ensures { result ≡ digits_before value }
 {
@@ -39,10 +40,34 @@ fn digits_before(value: u64) -> u32
     }
 }
 
-/// Appends a number in its shortest form, where it is below 2^56: of a larger one the last eight digits.
-pub fn push_varint(into: &mut Vec<u8>, value: u64) -> Result<(), NoMemory>
+/// How many bytes a number takes.
+#[inline(always)]
+pub fn varint_len(value: u64) -> usize
+    ensures value { result ≡ length (varint value) }
+    ensures within { result ≤ 8 }
+{
+    digits_before(value) as usize + 1
+}
+
+/// Appends a number of three bytes or more.
+fn push_long_varint(into: &mut Vec<u8>, value: u64) -> Result<(), NoMemory>
     ensures ok { OnOk result (into.new.items ≡ into.old.items ++ varint value) }
 {
     push_marked(into, digits_before(value), value / 128)?;
     append(into, &[(value % 128) as u8])
+}
+
+/// Appends a number in its shortest form, where it is below 2^56: of a larger one the last eight digits.
+#[inline(always)]
+pub fn push_varint(into: &mut Vec<u8>, value: u64) -> Result<(), NoMemory>
+    ensures ok { OnOk result (into.new.items ≡ into.old.items ++ varint value) }
+{
+    // Most numbers of a row have one byte or two.
+    if value < 1 << 7 {
+        return append(into, &[value as u8]);
+    }
+    if value < 1 << 14 {
+        return append(into, &[128 + (value / 128) as u8, (value % 128) as u8]);
+    }
+    push_long_varint(into, value)
 }

@@ -1,5 +1,5 @@
 -- The definitions of tables (SQLite, "CREATE TABLE"; the columns of the two tables of rejects are those of DuckDB's manual, "Reading Faulty CSV Files").
-use Rattle.std.specs.Prelude.{ℕ, List, [], ◌∷◌, ◌++◌, codes, zip}
+use Rattle.std.specs.Prelude.{ℕ, ◌==◌, if◌then◌else◌, List, [], ◌∷◌, ◌++◌, codes, zip}
 use Rattle.value_types.specs.declared.types.ColumnType.{ColumnType}
 use Rattle.value_types.specs.TypeName.{name_of_type}
 use Rattle.csv_writer.specs.Quoting.{quoted}
@@ -14,6 +14,10 @@ abbrev pub columns_text : List (List ℕ × ColumnType) → List ℕ
 columns_text [] = []
 columns_text (column ∷ []) = column_text column
 columns_text (column ∷ next ∷ columns) = column_text column ++ codes ", " ++ columns_text (next ∷ columns)
+
+-- what stands before the column of a number
+abbrev pub separator : ℕ → List ℕ
+separator column = if column == 0 then [] else codes ", "
 
 -- the definition of a table of columns of these names and types
 abbrev pub create_text : List ℕ → List (List ℕ) → List ColumnType → List ℕ

@@ -3,7 +3,7 @@ use Rattle.std.specs.Prelude.{ℕ, ◌==◌, Bool, if◌then◌else◌, List, []
 use Rattle.std.specs.Char.{to_ascii_lowercase}
 use Rattle.std.specs.Str.{byte}
 use Rattle.load_options.specs.Texts.{is_among}
-use Rattle.csv_sniffer.specs.ColumnNames.{first_free}
+use Rattle.csv_sniffer.specs.ColumnNames.{first_free, is_key}
 
 -- a name with ASCII capitals as small letters
 abbrev pub folded : List ℕ → List ℕ
@@ -16,6 +16,10 @@ clean_name name = map (λ b. if b == 0 then byte "_" else b) name
 -- whether an earlier name is the same without ASCII case
 abbrev pub is_same_name : List (List ℕ) → List ℕ → Bool
 is_same_name earlier name = is_among (map folded earlier) (folded name)
+
+-- the same, where the earlier names are keys of a set, folded
+abbrev pub is_taken : {K : Type 0} → List K → (K → List ℕ) → List ℕ → Bool
+is_taken keys text name = is_key keys text (folded name)
 
 -- names made different without ASCII case, from left to right, behind earlier ones: a name, or the first of the name with `_1`, `_2` and so on
 abbrev pub names_apart : List (List ℕ) → List (List ℕ) → List (List ℕ)

@@ -1,15 +1,115 @@
 // A whole database.
-ghost use Rattle.std.specs.Prelude.{◌≡◌, ◌≤◌, length, All, IfOk};
+ghost use Rattle.std.specs.Prelude.{◌≡◌, ◌≤◌, length, All, IfOk, OnOk};
 ghost use Rattle.csv_writer.specs.Writable.{IsWritableRow};
-ghost use Rattle.db_writer.specs.Database.{database};
+ghost use Rattle.db_pages.specs.Grown.{closed, grown, tree_over};
+ghost use Rattle.db_pages.specs.Image.{with_table};
+ghost use Rattle.db_writer.specs.Written.{records_of};
+ghost use Rattle.db_writer.specs.Database.{database, errors_table, rows_table, scans_table, with_tabled};
 
+use crate::definitions::{create_text, errors_text, scans_text};
+use crate::groups::{cut_blocks, push_groups, workers_for, write_groups};
+use crate::rejects::{push_rejects, push_scans};
+use crate::row_writer::RowWriter;
 use column_store::Table;
 use csv_sniffer::Sniffed;
 use csv_source::NoMemory;
+use db_pages::laws::tables_follow;
+use db_pages::{Image, Leaves, TablePages};
 use file_list::FileBook;
 use std::alloc::Global;
 use std::thread::Threads;
 use text_pieces::Pieces;
+
+/// Appends a table by its leaves.
+fn push_leaves(
+    alloc: Global,
+    image: &mut Image,
+    name: &[u8],
+    sql: &[u8],
+    leaves: Leaves,
+) -> Result<(), NoMemory>
+    ensures ok { OnOk result (image.new ≡ with_table image.old name.now sql.now (tree_over (closed leaves))) }
+{
+    let pages = TablePages::of(alloc, leaves)?;
+    let tree = pages.finish()?;
+    image.push(name, sql, tree)
+}
+
+/// The leaves of rows, behind so many pages, which at most so many workers write.
+fn write_pages<R: Threads + Sync>(
+    rt: &R,
+    alloc: Global,
+    rows: &Table,
+    base: u64,
+    threads: u32,
+) -> Result<TablePages, NoMemory>
+    requires threads { (1 ≤ threads) × (threads ≤ 64) }
+    requires writable { All IsWritableRow rows.now.rows }
+    ensures ok { IfOk result (λ pages. pages ≡ grown base 1 (records_of rows.now.rows)) }
+{
+    let count = rows.rows();
+    let mut groups = cut_blocks(alloc, count, workers_for(count, threads), base)?;
+    write_groups(rt, alloc, rows, groups.as_mut_slice());
+    let mut pages = TablePages::new(alloc, base);
+    push_groups(alloc, rows, &mut pages, groups)?;
+    Ok(pages)
+}
+
+/// Appends the table of the rows.
+fn push_rows_table<R: Threads + Sync>(
+    rt: &R,
+    alloc: Global,
+    image: &mut Image,
+    table: &[u8],
+    sniffed: &Sniffed,
+    rows: &Table,
+    threads: u32,
+) -> Result<(), NoMemory>
+    requires names { length sniffed.now.names ≡ length sniffed.now.types }
+    requires threads { (1 ≤ threads) × (threads ≤ 64) }
+    requires writable { All IsWritableRow rows.now.rows }
+    ensures ok { OnOk result (image.new ≡ with_tabled image.old (rows_table table.now sniffed.now rows.now.rows)) }
+{
+    let sql = create_text(alloc, table, &sniffed.names, &sniffed.types)?;
+    let pages = write_pages(rt, alloc, rows, image.next_place(), threads)?;
+    let tree = pages.finish()?;
+    image.push(table, &sql, tree)
+}
+
+/// Appends the table of the scans.
+fn push_scans_table(
+    alloc: Global,
+    image: &mut Image,
+    sniffed: &Sniffed,
+    files: &[FileBook],
+) -> Result<(), NoMemory>
+    ensures ok { OnOk result (image.new ≡ with_tabled image.old (scans_table sniffed.now files.now)) }
+{
+    let mut writer = RowWriter::new(alloc, image.next_place(), 1);
+    push_scans(&mut writer, sniffed, files)?;
+    push_leaves(
+        alloc,
+        image,
+        b"reject_scans",
+        scans_text(),
+        writer.into_leaves(),
+    )
+}
+
+/// Appends the table of the rejects.
+fn push_errors_table(alloc: Global, image: &mut Image, files: &[FileBook]) -> Result<(), NoMemory>
+    ensures ok { OnOk result (image.new ≡ with_tabled image.old (errors_table files.now)) }
+{
+    let mut writer = RowWriter::new(alloc, image.next_place(), 1);
+    push_rejects(&mut writer, files)?;
+    push_leaves(
+        alloc,
+        image,
+        b"reject_errors",
+        errors_text(),
+        writer.into_leaves(),
+    )
+}
 
 /// The text of a database: the rows in a table of that name, under the columns that were found, and the rejects of files,
 /// whose numbers are their places from 0 on. Where rejects aren't stored, there are no files. At most so many workers write
@@ -29,5 +129,10 @@ pub fn write_database<R: Threads + Sync>(
     requires writable { All IsWritableRow rows.now.rows }
     ensures { IfOk result (λ text. text ≡ database table.now sniffed.now rows.now.rows files.now) }
 {
-    Err(NoMemory)
+    tables_follow();
+    let mut image = Image::new(alloc);
+    push_rows_table(rt, alloc, &mut image, table, sniffed, rows, threads)?;
+    push_scans_table(alloc, &mut image, sniffed, files)?;
+    push_errors_table(alloc, &mut image, files)?;
+    image.finish()
 }

@@ -7,5 +7,12 @@
 #![tactic(auto)]
 
 mod database;
+mod definitions;
+mod fields;
+mod groups;
+mod naming;
+mod rejects;
+mod row_writer;
+mod rows;
 
 pub use database::write_database;

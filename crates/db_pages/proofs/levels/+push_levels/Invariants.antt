@@ -1,0 +1,4 @@
+use Rattle.db_pages.proofs.levels.+push_levels.Given as goal
+
+abbrev pub decreases-push_levels : goal.decreases-push_levels
+decreases-push_levels l = l.levels

@@ -1,0 +1,18 @@
+//! Laws over the definitions: what is joined is what one writer would have written.
+ghost use Rattle.db_pages.specs.Laws.{GroupsJoin, RowsFollow, TablesFollow};
+
+/// Rows that are laid out behind others are laid out with them.
+pub fn rows_follow()
+    ensures { RowsFollow }
+{}
+
+/// Groups of rows that are written apart and joined are the pages of all rows, where all but the last are whole blocks and each
+/// holds where it stands.
+pub fn groups_join()
+    ensures { GroupsJoin }
+{}
+
+/// A table whose tree is written behind those of others is one more of them.
+pub fn tables_follow()
+    ensures { TablesFollow }
+{}

@@ -1,0 +1,7 @@
+use Rattle.db_writer.proofs.RejectRows.{file-appended}
+use Rattle.db_writer.proofs.rejects.push_rejects.Goals as goal
+
+pub loop-file-preserved : goal.loop-file-preserved
+loop-file-preserved c =
+    file-appended c.args.files.now c.loop-file.file-index c.file-item.result c.args.writer.now c.loop-file.writer c.push_stored.new.writer c.loop-file-test.true c.file-item.is c.loop-file.invariant
+    c.in_ok-push_stored.ensures.ok

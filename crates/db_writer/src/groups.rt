@@ -1,0 +1,150 @@
+// Groups of blocks of rows, each written by one worker.
+ghost use Rattle.std.specs.Prelude.{◌≡◌, ◌<◌, ◌≤◌, ◌%◌, ◌⊎◌, ℕ, [], length, slice_index_or, slice_range, All, IfOk, OnOk};
+ghost use Rattle.csv_writer.specs.Writable.{IsWritableRow};
+ghost use Rattle.db_pages.specs.Grown.{grown};
+ghost use Rattle.db_writer.specs.Groups.{AreBlocks, HoldsRows, IsUnwritten, WritesGroup};
+ghost use Rattle.db_writer.specs.Written.{records_of};
+
+use crate::rows::write_rows;
+use column_store::Table;
+use csv_source::NoMemory;
+use db_pages::laws::groups_join;
+use db_pages::{Leaves, TablePages};
+use std::alloc::Global;
+use std::thread;
+use std::thread::Threads;
+
+/// So many rows begin a leaf of their own.
+const BLOCK: usize = 8192;
+
+/// The rows from `from` to before `to`, and their leaves once they are written behind so many pages.
+#[derive(Drop)]
+pub(crate) struct Group {
+    from: usize,
+    to: usize,
+    base: u64,
+    leaves: Option<Leaves>,
+}
+
+/// How many workers there are for so many rows: each has a block at least.
+pub(crate) fn workers_for(rows: usize, threads: u32) -> usize
+    requires { (1 ≤ threads) × (threads ≤ 64) }
+    ensures { (1 ≤ result) × (result ≤ 64) }
+{
+    rows.div_ceil(BLOCK).clamp(1, threads as usize)
+}
+
+/// So many rows in as many groups as asked, of whole blocks but for the last one, to be written behind so many pages.
+pub(crate) fn cut_blocks(
+    alloc: Global,
+    rows: usize,
+    count: usize,
+    base: u64,
+) -> Result<Vec<Group>, NoMemory>
+    requires { 0 < count }
+    ensures groups { IfOk result (λ groups. AreBlocks 0 groups.items rows) }
+    ensures unwritten { IfOk result (λ groups. All (IsUnwritten rows) groups.items) }
+    ensures count { IfOk result (λ groups. length groups.items ≡ count) }
+{
+    let mut groups = Vec::new(alloc);
+    let mut from = 0;
+    for number in 0..count {
+        let left = rows - from;
+        let share = left / (count - number);
+        let to = from + share.div_ceil(BLOCK).saturating_mul(BLOCK).min(left);
+        groups.push(Group {
+            from,
+            to,
+            base,
+            leaves: None,
+        })?;
+        from = to;
+    }
+    Ok(groups)
+}
+
+/// Writes the rows of a group, where that isn't done.
+fn write_group(alloc: Global, table: &Table, group: &mut Group)
+    requires group { HoldsRows table.now.rows group.old }
+    requires writable { All IsWritableRow table.now.rows }
+    ensures { WritesGroup table.now.rows group.old group.new }
+{
+    if group.leaves.is_none() {
+        group.leaves = write_rows(alloc, table, group.from, group.to, group.base).ok();
+    }
+}
+
+/// Writes the rows of all groups that aren't written, each by a worker of its own.
+pub(crate) fn write_groups<R: Threads + Sync>(
+    rt: &R,
+    alloc: Global,
+    table: &Table,
+    groups: &mut [Group],
+)
+    requires some { 0 < length groups.old }
+    requires groups { All (HoldsRows table.now.rows) groups.old }
+    requires writable { All IsWritableRow table.now.rows }
+    ensures { (k : ℕ) (d : _) → k < length groups.old → WritesGroup table.now.rows (slice_index_or groups.old k d) (slice_index_or groups.new k d) }
+{
+    let workers = groups.len();
+    thread::for_each_mut(
+        rt,
+        groups,
+        workers,
+        &|_, group: &mut Group|
+            requires { HoldsRows table.now.rows group.old × All IsWritableRow table.now.rows }
+            ensures { WritesGroup table.entry.now.rows group.old group.new }
+        { write_group(alloc, table, group) },
+    );
+}
+
+/// Appends a group behind the rows before it: its leaves as they were written, where they hold there, else they are written
+/// once more.
+fn push_group(
+    alloc: Global,
+    table: &Table,
+    pages: &mut TablePages,
+    group: Group,
+) -> Result<(), NoMemory>
+    requires before { pages.old ≡ grown pages.old.base 1 (records_of (slice_range table.now.rows 0 group.from)) }
+    requires block { (group.from % 8192 ≡ 0) ⊎ (group.from ≡ group.to) }
+    requires group { HoldsRows table.now.rows group }
+    requires writable { All IsWritableRow table.now.rows }
+    ensures ok { OnOk result (pages.new ≡ grown pages.old.base 1 (records_of (slice_range table.now.rows 0 group.to))) }
+{
+    groups_join();
+    let place = pages.next_place();
+    let Group {
+        from,
+        to,
+        leaves,
+        ..
+    } = group;
+    let Some(leaves) = leaves else {
+        return Err(NoMemory);
+    };
+    if leaves.holds_at(place) {
+        return pages.push(leaves);
+    }
+    let leaves = write_rows(alloc, table, from, to, place)?;
+    pages.push(leaves)
+}
+
+/// Appends groups in order, where all were written.
+pub(crate) fn push_groups(
+    alloc: Global,
+    table: &Table,
+    pages: &mut TablePages,
+    groups: Vec<Group>,
+) -> Result<(), NoMemory>
+    requires none { pages.old ≡ grown pages.old.base 1 [] }
+    requires blocks { AreBlocks 0 groups.items (length table.now.rows) }
+    requires groups { All (HoldsRows table.now.rows) groups.items }
+    requires writable { All IsWritableRow table.now.rows }
+    ensures ok { OnOk result (pages.new ≡ grown pages.old.base 1 (records_of table.now.rows)) }
+{
+    for group in groups {
+        push_group(alloc, table, pages, group)?;
+    }
+    Ok(())
+}

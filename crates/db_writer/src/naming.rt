@@ -1,0 +1,83 @@
+// The names of columns in a database.
+ghost use Rattle.std.specs.Prelude.{◌≡◌, IfOk};
+ghost use Rattle.csv_sniffer.specs.ColumnNames.{first_free, with_number};
+ghost use Rattle.db_writer.specs.Naming.{clean_name, database_names, folded, is_taken};
+
+use csv_source::NoMemory;
+use std::alloc::Global;
+use std::collections::HashSet;
+use value_types::Names;
+
+/// A name with each NUL byte as `_`.
+fn clean_name(alloc: Global, name: &[u8]) -> Result<Vec<u8>, NoMemory>
+    ensures { IfOk result (λ clean. clean.items ≡ clean_name name.now) }
+{
+    let mut clean = Vec::with_capacity(alloc, name.len())?;
+    for byte in name {
+        clean.push(if *byte == 0 { b'_' } else { *byte })?;
+    }
+    Ok(clean)
+}
+
+/// A name with ASCII capitals as small letters.
+fn folded(alloc: Global, name: &[u8]) -> Result<Vec<u8>, NoMemory>
+    ensures { IfOk result (λ other. other.items ≡ folded name.now) }
+{
+    let mut other = name.to_vec(alloc)?;
+    other.make_ascii_lowercase();
+    Ok(other)
+}
+
+/// A name with `_` and a number behind it.
+fn with_number(alloc: Global, name: &[u8], number: usize) -> Result<Vec<u8>, NoMemory>
+    ensures { IfOk result (λ other. other.items ≡ with_number name.now number) }
+{
+    let mut other = name.to_vec(alloc)?;
+    other.push(b'_')?;
+    other.extend_from_slice(itoa::Buffer::new().format(number).as_bytes())?;
+    Ok(other)
+}
+
+/// Whether a name is one of those that are taken, which are folded.
+fn is_taken(alloc: Global, taken: &HashSet<Vec<u8>>, name: &[u8]) -> Result<bool, NoMemory>
+    ensures { IfOk result (λ same. same ≡ is_taken taken.now.keys (λ key. key.items) name.now) }
+{
+    let folded = folded(alloc, name)?;
+    Ok(taken.contains(folded.as_slice()))
+}
+
+/// The name, or the first of the name with `_1`, `_2` and so on up to a count, that isn't taken.
+fn first_free(
+    alloc: Global,
+    taken: &HashSet<Vec<u8>>,
+    count: usize,
+    name: Vec<u8>,
+) -> Result<Vec<u8>, NoMemory>
+    ensures { IfOk result (λ free. free.items ≡ first_free (is_taken taken.now.keys (λ key. key.items)) count name.items) }
+{
+    if !is_taken(alloc, taken, &name)? {
+        return Ok(name);
+    }
+    for tried in 0..count {
+        let other = with_number(alloc, &name, tried + 1)?;
+        if !is_taken(alloc, taken, &other)? {
+            return Ok(other);
+        }
+    }
+    Ok(name)
+}
+
+/// The names of columns, made different without ASCII case. Names that are taken are found by a hash.
+pub(crate) fn database_names(alloc: Global, names: &Names) -> Result<Names, NoMemory>
+    ensures { IfOk result (λ made. made ≡ database_names names.now) }
+{
+    let mut made = Names::new(alloc);
+    let mut taken = HashSet::new(alloc);
+    for column in 0..names.len() {
+        let wanted = clean_name(alloc, names.get(column))?;
+        let name = first_free(alloc, &taken, column, wanted)?;
+        taken.insert(folded(alloc, &name)?)?;
+        made.push(&name)?;
+    }
+    Ok(made)
+}

@@ -1,0 +1,164 @@
+// Rows on their way into pages.
+ghost use Rattle.std.specs.Prelude.{◌≡◌, ◌∷◌, [], pos, OnOk};
+ghost use Rattle.sqlite_value.specs.declared.value.Value.TheVariants as stored;
+ghost use Rattle.value_types.specs.Spelled.{IsSpelled, IsSpelledCell};
+ghost use Rattle.std.specs.Str.{is_utf8};
+ghost use Rattle.value_types.specs.ValueText.{value_text};
+ghost use Rattle.value_types.specs.Datum.{datum_of};
+ghost use Rattle.db_writer.specs.Stored.{stored_cell, stored_value, text_or_blob};
+ghost use Rattle.db_writer.specs.Written.{nothing_written, record_of, with_records, with_value};
+
+use csv_source::NoMemory;
+use db_pages::Leaves;
+use db_records::{push_blob, push_integer, push_null, push_record, push_text};
+use std::alloc::Global;
+use std::marker::Model;
+use value_types::{Cell, Value, write_value};
+
+/// The rows of a table that are laid out in leaves, the rowid of the next one, and its values so far, in memory that is used
+/// again for each row. After an error it may only be let go.
+#[derive(Drop)]
+pub(crate) struct RowWriter {
+    leaves: Leaves,
+    next: u64,
+    types: Vec<u8>,
+    body: Vec<u8>,
+    text: Vec<u8>,
+    bytes: Vec<u8>,
+}
+
+impl Model for RowWriter {
+    ghost use Rattle.db_writer.specs.Written.{Written};
+
+    ghost Value = { Written };
+
+    ghost view = { λ w. record { rows = w.leaves; next = w.next; values = record { types = w.types.items; body = w.body.items } } };
+}
+
+/// Whether bytes are UTF-8.
+fn is_utf8(bytes: &[u8]) -> bool
+    ensures { result ≡ is_utf8 bytes.now }
+{
+    std::str::from_utf8(bytes).is_ok()
+}
+
+impl RowWriter {
+    /// No rows, behind so many pages, the first under a rowid.
+    pub(crate) fn new(alloc: Global, base: u64, first: u64) -> RowWriter
+        ensures { result ≡ nothing_written base first }
+    {
+        RowWriter {
+            leaves: Leaves::new(alloc, base),
+            next: first,
+            types: Vec::new(alloc),
+            body: Vec::new(alloc),
+            text: Vec::new(alloc),
+            bytes: Vec::new(alloc),
+        }
+    }
+
+    /// Appends NULL.
+    #[inline(always)]
+    pub(crate) fn push_null(&mut self) -> Result<(), NoMemory>
+        ensures ok { OnOk result (self.new ≡ with_value self.old stored.Null) }
+    {
+        push_null(&mut self.types)
+    }
+
+    /// Appends a number.
+    #[inline(always)]
+    pub(crate) fn push_integer(&mut self, number: i64) -> Result<(), NoMemory>
+        ensures ok { OnOk result (self.new ≡ with_value self.old (stored.Int number)) }
+    {
+        push_integer(&mut self.types, &mut self.body, number)
+    }
+
+    /// Appends a number. One of 2^63 and more isn't counted.
+    pub(crate) fn push_count(&mut self, count: u64) -> Result<(), NoMemory>
+        ensures ok { OnOk result (self.new ≡ with_value self.old (stored.Int (pos count))) }
+    {
+        match i64::try_from(count) {
+            Ok(number) => self.push_integer(number),
+            Err(_) => Err(NoMemory),
+        }
+    }
+
+    /// Appends a text.
+    #[inline(always)]
+    pub(crate) fn push_text(&mut self, text: &[u8]) -> Result<(), NoMemory>
+        ensures ok { OnOk result (self.new ≡ with_value self.old (stored.Text text.now)) }
+    {
+        push_text(&mut self.types, &mut self.body, text)
+    }
+
+    /// Appends a text where the bytes are UTF-8, else a blob.
+    pub(crate) fn push_bytes(&mut self, bytes: &[u8]) -> Result<(), NoMemory>
+        ensures ok { OnOk result (self.new ≡ with_value self.old (text_or_blob bytes.now)) }
+    {
+        if is_utf8(bytes) {
+            self.push_text(bytes)
+        } else {
+            push_blob(&mut self.types, &mut self.body, bytes)
+        }
+    }
+
+    /// Appends a value as its text.
+    #[inline(always)]
+    fn push_printed(&mut self, value: Value) -> Result<(), NoMemory>
+        requires { IsSpelled value }
+        ensures ok { OnOk result (self.new ≡ with_value self.old (stored.Text (value_text value))) }
+    {
+        self.text.clear();
+        write_value(&value, &mut self.text)?;
+        push_text(&mut self.types, &mut self.body, &self.text)
+    }
+
+    /// Appends a value of a column: a date or a time as its text.
+    #[inline(always)]
+    fn push_value(&mut self, value: Value) -> Result<(), NoMemory>
+        requires { IsSpelled value }
+        ensures ok { OnOk result (self.new ≡ with_value self.old (stored_value value)) }
+    {
+        match value {
+            Value::Bool(truth) => self.push_integer(i64::from(truth)),
+            Value::Int(number) => self.push_integer(number),
+            Value::Date(_) => self.push_printed(value),
+            Value::Time(_) => self.push_printed(value),
+            Value::Stamp(_) => self.push_printed(value),
+        }
+    }
+
+    /// Appends a cell of a table.
+    #[inline(always)]
+    pub(crate) fn push_cell(&mut self, cell: Cell<'_>) -> Result<(), NoMemory>
+        requires { IsSpelledCell (datum_of cell) }
+        ensures ok { OnOk result (self.new ≡ with_value self.old (stored_cell (datum_of cell.entry))) }
+    {
+        match cell {
+            Cell::Null => self.push_null(),
+            Cell::Value(value) => self.push_value(value),
+            Cell::Text(text) => self.push_text(text),
+        }
+    }
+
+    /// Ends the row under way. More rows than can be counted aren't taken.
+    #[inline(always)]
+    pub(crate) fn end_row(&mut self) -> Result<(), NoMemory>
+        ensures ok { OnOk result (self.new ≡ with_records self.old (record_of self.old.values ∷ [])) }
+    {
+        self.bytes.clear();
+        push_record(&mut self.bytes, &self.types, &self.body)?;
+        self.types.clear();
+        self.body.clear();
+        self.leaves.push(self.next, &self.bytes)?;
+        self.next = self.next.checked_add(1).ok_or(NoMemory)?;
+        Ok(())
+    }
+
+    /// The rows.
+    pub(crate) fn into_leaves(self) -> Leaves
+        ensures { result ≡ self.rows }
+    {
+        self.leaves
+    }
+}
