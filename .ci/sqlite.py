@@ -127,9 +127,9 @@ def check_types(database: sqlite3.Connection, rows: list[tuple]) -> None:
     kinds = {int: "integer", str: "text", bytes: "blob", type(None): "null"}
     columns = [name for _, name, *_ in database.execute('PRAGMA table_info("data")')]
     quoted = ['"' + name.replace('"', '""') + '"' for name in columns]
-    asked = f"SELECT rowid, {', '.join(f'typeof({name})' for name in quoted)} FROM data ORDER BY rowid"
-    wanted = [(number, *(kinds[type(cell)] for cell in row)) for number, row in enumerate(rows, 1)]
-    same(database.execute(asked).fetchall(), wanted)
+    asked = f"SELECT {', '.join(f'typeof({name})' for name in quoted)} FROM data ORDER BY rowid"
+    same(database.execute(asked).fetchall(), [tuple(kinds[type(cell)] for cell in row) for row in rows])
+    same(database.execute("SELECT rowid FROM data").fetchall(), [(number,) for number in range(1, len(rows) + 1)])
 
 
 def check_sound(database: sqlite3.Connection) -> None:
