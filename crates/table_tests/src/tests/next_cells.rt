@@ -126,6 +126,8 @@ fn two_of_texts(alloc: Global) -> Result<Table, NoMemory> {
 #[test]
 fn a_text_may_come_in_runs(rt: HostRuntime) -> Result<(), NoMemory> {
     let table = two_of_texts(rt.alloc())?;
+    assert!(rt; table.rows() == 2);
+    assert!(rt; table.columns() == 2);
     assert!(rt; is_text(table.cell_at(0, 0), b"a\"b"));
     assert!(rt; is_null(table.cell_at(1, 0)));
     assert!(rt; is_text(table.cell_at(0, 1), b""));
