@@ -1,0 +1,3 @@
+mod small;
+mod tables;
+mod threads;
