@@ -2,8 +2,10 @@
 mod batch;
 mod claims;
 mod comments;
+mod comments_beside;
 mod conflicts;
 mod convert;
+mod convert_texts;
 mod crew;
 mod database;
 mod endings;

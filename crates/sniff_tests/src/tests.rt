@@ -1,4 +1,6 @@
-mod options;
-mod ranking;
-mod sniffing;
+mod csv_sniffer_inputs;
+mod dialect_rank_candidates;
+mod load_options_commands;
+mod load_options_refusals;
+mod load_options_words;
 mod words;

@@ -2,8 +2,10 @@
 ghost use Rattle.std.specs.Prelude.{IfOk};
 ghost use Rattle.load_options.specs.Accepted.{IsAccepted};
 
-use load_options::{Options, parse_words};
+use csv_source::NoMemory;
+use load_options::{Options, Request, parse_words};
 use std::alloc::Global;
+use std::process::Abort;
 use std::test::Fail;
 
 /// Words out of a line that is cut at spaces.
@@ -15,6 +17,17 @@ pub fn words_of(alloc: Global, line: &str) -> Result<Vec<String>, Fail> {
         }
     }
     Ok(words)
+}
+
+/// The request of accepted words.
+pub fn accepted(rt: &impl Abort, alloc: Global, line: &str) -> Result<Request, Fail> {
+    match parse_words(alloc, &words_of(alloc, line)?) {
+        Ok(request) => Ok(request),
+        Err(stop) => {
+            assert_eq!(rt; Some(stop), None, "{line}");
+            Err(Fail::from(NoMemory))
+        }
+    }
 }
 
 /// The options of a line that is accepted.

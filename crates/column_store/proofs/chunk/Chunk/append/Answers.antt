@@ -7,7 +7,8 @@ use Rattle.column_store.specs.ColumnChanges.{EachColumn, IsAppended, KeepsCells}
 use Rattle.column_store.specs.IsFilled.{IsFilled}
 use Rattle.column_store.specs.RowsOfColumns.{row_at, rows_of}
 use Rattle.column_store.proofs.Rows.{length-rows_of}
-use Rattle.column_store.proofs.Filled.{all_full, filled_total, none_begun, on_err, rows_appended, same_cells, same_types, same_view, types_appended}
+use Rattle.column_store.proofs.AppendedRows.{all_full, filled_total, none_begun, rows_appended, types_appended}
+use Rattle.column_store.proofs.Filled.{on_err, same_cells, same_types, same_view}
 use Rattle.column_store.proofs.chunk.Chunk.append.Goals as goal
 
 pub append-requires-clause-full : goal.append-requires-clause-full

@@ -4,7 +4,8 @@ use Rattle.value_types.specs.Datum.{datum_of}
 use Rattle.column_store.specs.ColumnCells.{cells_of, type_of}
 use Rattle.column_store.specs.RowsOfColumns.{row_at, rows_of}
 use Rattle.column_store.proofs.Rows.{rows_of-more}
-use Rattle.column_store.proofs.Filled.{filled_finish, fit_lengths, fits_next, length_begun, same_view, take_next}
+use Rattle.column_store.proofs.Filled.{filled_finish, length_begun, same_view}
+use Rattle.column_store.proofs.NextCells.{fit_lengths, fits_next, take_next}
 use Rattle.column_store.proofs.chunk.Chunk.push_reserved.Goals as goal
 
 pub push_cell_reserved-requires-clause-fits : goal.push_cell_reserved-requires-clause-fits

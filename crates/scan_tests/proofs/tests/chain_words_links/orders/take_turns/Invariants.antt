@@ -1,0 +1,10 @@
+use Rattle.std.proofs.Common.{All}
+use Rattle.scan_tests.specs.declared.tests.chain_words_links.walker.Walker.{Walker}
+use Rattle.chain_words.specs.Worked.{IsReady}
+use Rattle.scan_tests.proofs.tests.chain_words_links.orders.take_turns.Given as goal
+
+abbrev pub invariant-loop-turn : goal.invariant-loop-turn
+invariant-loop-turn g l = record {
+  first : IsReady l.chain l.first.link l.first.kept l.first.duty;
+  others : All (λ (w : Walker). IsReady l.chain w.link w.kept w.duty) l.others;
+}
