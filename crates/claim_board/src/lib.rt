@@ -5,6 +5,7 @@
 //! The board's rule ties the word to all drawers, under every interleaving of their steps: each number below the word and the count
 //! stands with exactly one drawer, once, and a drawer that is done saw the word reach the count (`specs/Rule.antt`).
 //! Each kind of step keeps the rule by one lemma of `proofs/Keeps.antt`: `claims`, `splits` and `joins`; `opens` is the board at its start, and `ends` at its end.
+//! For users of the library too: nothing here speaks of CSV.
 #![tactic(auto)]
 
 mod board;

@@ -6,6 +6,7 @@
 //! their own, to which a row is appended cell by cell and finished, or taken back. A table is a list of chunks, so that
 //! tables are joined without a copy, and a row's chunk is found by the rows before it. Contracts see a table as its
 //! types, its rows of cells, and the number of rows that can be appended without memory.
+//! For users of the library: `Table`; `Chunk` serves the crates that fill tables and write them.
 #![tactic(auto)]
 
 mod bigints;

@@ -5,6 +5,7 @@
 //! bound, and `seen_lines` prints it. Taps stand in boxes that the caller makes, each in a `Slot`; a tap that is over
 //! is dropped, and its slot keeps the number of that row. `course` is what a slot shows after some rows.
 //! A row costs no allocation unless it is wider than all rows before it or has a text that a `DistinctTap` keeps.
+//! For users of the library: the four taps, which `csv_loader::run` takes; slots and their feeding serve the crates above.
 #![tactic(auto)]
 
 mod columns;

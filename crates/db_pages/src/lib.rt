@@ -4,6 +4,7 @@
 //! that, so that several workers can write groups of blocks side by side. `TablePages` joins what they wrote without a copy and
 //! puts the pages above the leaves behind them, which gives a `Tree`. `Image` is the whole file: the trees of tables, the list
 //! of tables, and the first page in front. What is written is a function of the rows, the names and the definitions alone.
+//! For users of the library too: nothing here speaks of CSV.
 #![tactic(auto)]
 
 mod cells;

@@ -4,6 +4,7 @@
 //! a row is filled value by value into two lists, of types and of values, and then written as one record. A cell is a
 //! record with its length and its rowid, and a leaf holds the cells of rows. What is written reads back by the kit's own
 //! definitions of the format.
+//! It serves `db_pages` alone.
 #![tactic(auto)]
 
 mod appending;

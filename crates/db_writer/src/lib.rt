@@ -4,6 +4,7 @@
 //! DuckDB's manual, `reject_scans` and `reject_errors`. Its text is one function of what was loaded: a header's page, the
 //! pages of each table, and those of the list of tables (SQLite, "Database File Format"). Blocks of 8,192 rows begin a
 //! page of their own, so that workers write groups of blocks side by side, and what each wrote is a piece of the text.
+//! For users of the library: `write_database`.
 #![tactic(auto)]
 
 mod database;

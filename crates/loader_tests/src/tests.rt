@@ -9,6 +9,7 @@ mod convert_texts;
 mod crew;
 mod database;
 mod endings;
+mod example;
 mod faults;
 mod faulty_rows;
 mod found;

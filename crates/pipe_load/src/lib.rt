@@ -3,6 +3,7 @@
 //! windows in the order of their numbers, and scans again what wasn't opened in its true state (Ge et al., SIGMOD 2019, with
 //! the reading beside it). A rule that each step on the queue keeps says that no window is lost, changed or taken twice.
 //! `pipe_load` has the contract of `window_load`, but that it returns isn't proved.
+//! It serves `csv_loader` alone.
 #![tactic(auto)]
 
 mod answer;

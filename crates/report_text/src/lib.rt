@@ -3,6 +3,7 @@
 //! backslash. `render` walks a table chunk by chunk, so that a row takes no memory of its own and a cell needs no search;
 //! groups of many rows are rendered by workers, and what each made is a piece of the text.
 //! `make_text` makes a valid text of any length from a number, for tests and measurements.
+//! For users of the library: `Outcome` with `render`, and `make_text`.
 #![tactic(auto)]
 
 mod batch;
