@@ -25,10 +25,10 @@ use Rattle.reject_book.specs.Verdict.{Blank, Good}
 use Rattle.csv_writer.specs.Writable.{IsReadableCell}
 use Rattle.csv_writer.specs.WrittenTable.{cell_field, row_line}
 use Rattle.csv_writer.proofs.TextFields.{row_utf8}
-use Rattle.csv_loader.specs.Laws.{csv_marks, cell_to_write}
-use Rattle.csv_loader.proofs.KnownTests.{cond_no, cond_yes}
-use Rattle.csv_loader.proofs.WrittenCells.{ReadsNulls, cells_read, no_cast_fault}
-use Rattle.csv_loader.proofs.WrittenTables.{cells_text, cells_writable, same_count}
+use Rattle.table_laws.specs.Laws.{csv_marks, cell_to_write}
+use Rattle.table_laws.proofs.KnownTests.{cond_no, cond_yes}
+use Rattle.table_laws.proofs.WrittenCells.{ReadsNulls, cells_read, no_cast_fault}
+use Rattle.table_laws.proofs.WrittenTables.{cells_text, cells_writable, same_count}
 
 pub csv_dialect : IsDialect csv_marks
 csv_dialect = record {

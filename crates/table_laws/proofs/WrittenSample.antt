@@ -17,7 +17,7 @@ use Rattle.row_fields.proofs.FieldReading.{is_row_state, InRow}
 use Rattle.row_fields.proofs.RowReading.{RowRead, not_inside}
 use Rattle.dialect_rank.specs.Sampled.{Span, filled_rows, is_last_cut, without_last, sampled_spans}
 use Rattle.csv_sniffer.specs.Sniffed.{has_whole_row}
-use Rattle.csv_loader.proofs.EarlyRows.{EndEarly, early-take, without_last-early, to_span, early-rows}
+use Rattle.table_laws.proofs.EarlyRows.{EndEarly, early-take, without_last-early, to_span, early-rows}
 
 -- a row's text has no end of a row
 row_end-in_row : (d : Marks) (s : State) (xs ys : List ℕ) → InRow d s xs → row_end d s (xs ++ ys) 0 ≡ length xs + row_end d (state_after d s xs) ys 0

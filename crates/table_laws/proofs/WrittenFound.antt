@@ -18,8 +18,8 @@ use Rattle.csv_sniffer.specs.ColumnNames.{wanted_name, made_different, final_nam
 use Rattle.csv_sniffer.specs.ColumnTypes.{types_over, detected_types, final_types}
 use Rattle.csv_sniffer.specs.Header.{looks_like_header}
 use Rattle.csv_sniffer.specs.Sniffed.{chosen_dialect, column_count, has_whole_row, header_choice, has_header, first_if, behind_first_if, behind_row, sniffed_under, sniffed}
-use Rattle.csv_loader.specs.Laws.{csv_marks, ReadsWritten}
-use Rattle.csv_loader.proofs.WrittenSample.{FirstRow}
+use Rattle.table_laws.specs.Laws.{csv_marks, ReadsWritten}
+use Rattle.table_laws.proofs.WrittenSample.{FirstRow}
 
 -- ---- the dialect
 

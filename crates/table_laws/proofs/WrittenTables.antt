@@ -14,8 +14,8 @@ use Rattle.value_types.specs.ValueText.{value_text}
 use Rattle.csv_writer.specs.Quoting.{wants_quotes, needs_quotes, doubled}
 use Rattle.csv_writer.specs.WrittenTable.{text_field, cell_field, row_lines, written_table}
 use Rattle.csv_writer.proofs.PlainValues.{IsPlain, value_plain}
-use Rattle.csv_loader.specs.Laws.{csv_marks, text_to_write, cell_to_write, table_to_write, HasColumns}
-use Rattle.csv_loader.proofs.KnownTests.{neither}
+use Rattle.table_laws.specs.Laws.{csv_marks, text_to_write, cell_to_write, table_to_write, HasColumns}
+use Rattle.table_laws.proofs.KnownTests.{neither}
 
 -- ---- the texts
 
