@@ -23,7 +23,7 @@ pub short_as_is : (bytes : List ℕ) → length bytes ≤ 2 ^ 30 → with_lock_p
 unfolding with_lock_page
 short_as_is bytes h = cond-true (nat_le (length bytes) (2 ^ 30)) bytes (split_round bytes) (le-leb (length bytes) (2 ^ 30) h)
 
-long_split : (bytes : List ℕ) → 2 ^ 30 < length bytes → with_lock_page bytes ≡ split_round bytes
+pub long_split : (bytes : List ℕ) → 2 ^ 30 < length bytes → with_lock_page bytes ≡ split_round bytes
 unfolding with_lock_page
 long_split bytes h = cond-false (nat_le (length bytes) (2 ^ 30)) bytes (split_round bytes) (lt-leb (length bytes) (2 ^ 30) h)
 

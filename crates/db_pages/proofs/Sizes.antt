@@ -15,7 +15,7 @@ use Rattle.db_pages.proofs.Chains.{chain-last, chain-more}
 pub varint-short : (n : ℕ) → length (varint n) ≤ 8
 varint-short n = omega (arith, varint-size n, digits-few n)
 
-local-most : (n : ℕ) → local_len Table 4096 n ≤ 4061
+pub local-most : (n : ℕ) → local_len Table 4096 n ≤ 4061
 unfolding local_len
 local-most n = grind (arith, nat_tests)
 

@@ -31,7 +31,7 @@ length-inner right cells four fits =
       length-replicate {A = ℕ} (at - (12 + 2 * n)) 0,
     )
 
-dividers-size : (children : List Child) → 2 * length (dividers children) + length (joined (dividers children)) ≤ 14 * length children
+pub dividers-size : (children : List Child) → 2 * length (dividers children) + length (joined (dividers children)) ≤ 14 * length children
 dividers-size [] = omega arith
 dividers-size (child ∷ []) = omega arith
 dividers-size (child ∷ next ∷ more) =
@@ -39,19 +39,19 @@ dividers-size (child ∷ next ∷ more) =
     let four : length number ≡ 4 = refl in
     omega (arith, four, dividers-size (next ∷ more), length-append (number ++ varint child.last) (joined (dividers (next ∷ more))), length-append number (varint child.last), varint-short child.last)
 
-above-whole : (children : List Child) → length children < 256 → length (page_above children) ≡ 4096
+pub above-whole : (children : List Child) → length children < 256 → length (page_above children) ≡ 4096
 above-whole children few = length-inner (four_bytes (number_of (last_child children).place)) (dividers children) refl (omega (arith, few, dividers-size children))
 
-abbrev AllFew : List (List Child) → Type 0
+abbrev pub AllFew : List (List Child) → Type 0
 AllFew [] = ⊤
 AllFew (group ∷ groups) = (length group < 256) × AllFew groups
 
-level-whole : (groups : List (List Child)) → AllFew groups → length (level_pages groups) % 4096 ≡ 0
+pub level-whole : (groups : List (List Child)) → AllFew groups → length (level_pages groups) % 4096 ≡ 0
 level-whole [] few = refl
 level-whole (group ∷ groups) few =
     omega (arith, length-append (page_above group) (level_pages groups), above-whole group few.0, level-whole groups few.1)
 
-grouped-few : (fuel : ℕ) (children : List Child) → AllFew (grouped fuel children)
+pub grouped-few : (fuel : ℕ) (children : List Child) → AllFew (grouped fuel children)
 grouped-few zero children = tt
 grouped-few (suc fuel) children =
     elim (cases_lt (length children) 256) [
@@ -60,7 +60,7 @@ grouped-few (suc fuel) children =
           subst AllFew (sym (grouped-more fuel children many)) (omega (arith, length-take-le 128 children (omega (arith, many))), grouped-few fuel (drop 128 children))
     ]
 
-levels-whole : (fuel place : ℕ) (children : List Child) → length (levels_pages fuel place children) % 4096 ≡ 0
+pub levels-whole : (fuel place : ℕ) (children : List Child) → length (levels_pages fuel place children) % 4096 ≡ 0
 levels-whole zero place children = refl
 levels-whole (suc fuel) place children =
     let groups : List (List Child) = groups_of children in
@@ -77,7 +77,7 @@ levels-whole (suc fuel) place children =
       | inr few ↦ omega (arith, ap length (cond-true (nat_le (length children) 1) [] more (le-leb (length children) 1 few)))
     ]
 
-leaf-whole : (g : Grown) → length g.pages % 4096 ≡ 0 → length (with_leaf g).pages % 4096 ≡ 0
+pub leaf-whole : (g : Grown) → length g.pages % 4096 ≡ 0 → length (with_leaf g).pages % 4096 ≡ 0
 leaf-whole g whole = by-leaves (is_empty_list g.leaves) refl
   where
     added : Grown
