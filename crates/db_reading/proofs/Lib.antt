@@ -1,0 +1,10 @@
+pub mod Each
+pub mod Standing
+pub mod Inner
+pub mod Overflow
+pub mod LeafCells
+pub mod Leaves
+pub mod Groups
+pub mod Levels
+pub mod Trees
+pub mod Files

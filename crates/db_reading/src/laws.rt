@@ -1,0 +1,22 @@
+//! Laws over the definitions: what is written reads back.
+ghost use Rattle.db_reading.specs.Laws.{ChainReadsBack, DividerReadsBack, PageReadsBack, TreeReadsBack};
+
+/// A cell of a page above others names one of them and the last rowid under it.
+pub fn divider_reads_back()
+    ensures { DividerReadsBack }
+{}
+
+/// A page above others is whole, and names each of them.
+pub fn page_reads_back()
+    ensures { PageReadsBack }
+{}
+
+/// A record that goes on in other pages is read from its cell and these.
+pub fn chain_reads_back()
+    ensures { ChainReadsBack }
+{}
+
+/// Under the root of a tree a reader finds its rows, in the order of their rowids.
+pub fn tree_reads_back()
+    ensures { TreeReadsBack }
+{}
