@@ -76,3 +76,17 @@ file-stands bytes =
       | inl long ↦ subst (λ file. Stand (all_pages (file_pages file)) 0 bytes) (sym (long_split bytes long)) (long-stands bytes long)
       | inr short ↦ subst (λ file. Stand (all_pages (file_pages file)) 0 bytes) (sym (short_as_is bytes short)) (short-stands bytes short)
     ]
+
+pub file-longer : (bytes : List ℕ) → length bytes ≤ length (with_lock_page bytes)
+file-longer bytes =
+    elim (cases_lt (2 ^ 30) (length bytes)) [
+      | inl long ↦
+          let low : List ℕ = take (2 ^ 30) bytes in
+          let high : List ℕ = drop (2 ^ 30) bytes in
+          omega (
+            arith,
+            ap length (long_split bytes long),
+            file-size bytes low (replicate 4096 0) high (take-append-drop (2 ^ 30) bytes) (length-take-le (2 ^ 30) bytes (omega (arith, long))) (length-replicate {A = ℕ} 4096 0),
+          )
+      | inr short ↦ omega (arith, ap length (short_as_is bytes short))
+    ]

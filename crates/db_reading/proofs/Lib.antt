@@ -8,3 +8,6 @@ pub mod Groups
 pub mod Levels
 pub mod Trees
 pub mod Files
+pub mod Records
+pub mod FirstPage
+pub mod Images

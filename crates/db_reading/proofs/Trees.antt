@@ -131,7 +131,7 @@ some-leaves : (leaves : List Child) → is_empty_list leaves ≡ false → 0 < l
 some-leaves [] is = absurd (false≢true (sym is))
 some-leaves (child ∷ leaves) is = omega arith
 
-module _ (order : Item → Item → Bool) (part : Part) (base : ℕ) (rows : List (List ℕ)) (past : 0 < base) (some : All (λ row. 1 < length row) rows) where
+module _ (base : ℕ) (rows : List (List ℕ)) (past : 0 < base) (some : All (λ row. 1 < length row) rows) where
   abbrev laid : Laid
   laid = ended base (with_rows base nothing_laid 1 rows)
 
@@ -144,46 +144,66 @@ module _ (order : Item → Item → Bool) (part : Part) (base : ℕ) (rows : Lis
       let c : Counts laid (0 + a.added) = end-counts base (with_rows base nothing_laid 1 rows) (0 + a.added) a.counts in
       omega (arith, c.pages-are)
 
-  -- what the tree of some leaves is to a reader
-  abbrev Reads : TreeBytes → Type 0
-  Reads tree = length tree.bytes < 2 ^ 50 → Stand part base tree.bytes → TreeReads order part tree.root (row_entries 1 rows)
-
-  some-read : is_empty_list laid.leaves ≡ false → Reads (over (grown base 1 rows))
-  some-read are short stand =
-      let above : ℕ = next_place base laid.pages in
-      let levels : List ℕ = levels_pages 6 above laid.leaves in
-      let longer : length (laid.pages ++ levels) ≡ length laid.pages + length levels = length-append laid.pages levels in
-      let s : Says part laid (row_entries 1 rows) = holds.says part (stand-front part base laid.pages levels stand) (omega (arith, longer, short)) in
-      let says-of : List Entry = flat_map (λ (child : Child). page_entries part (number_of child.place)) laid.leaves in
-      let read : says-of ≡ row_entries 1 rows =
-      sym (append-nil says-of) ∙ ap (λ cells. says-of ++ map (leaf_entry part) cells) (sym (none-left base past (with_rows base nothing_laid 1 rows))) ∙ s.read in
-      leaves-read order part above laid.leaves (row_entries 1 rows) (some-leaves laid.leaves are) (omega (arith, leaves-few, longer, short)) (omega (arith, past)) s.leaves read
-      (stand-next part base laid.pages levels holds.whole stand)
-
-  none-read : is_empty_list laid.leaves ≡ true → Reads (over (record { base = base; pages = laid.pages ++ leaf_page []; leaves = (record { place = next_place base laid.pages; last = 0 }) ∷ [] }))
-  none-read are short stand =
-      let place : ℕ = next_place base laid.pages in
-      let page : List ℕ = leaf_page [] in
-      let size : length page ≡ 4096 = length-leaf_page [] (omega arith) in
-      let stand′ : Stand part base (laid.pages ++ page) = subst (Stand part base) (append-nil (laid.pages ++ page)) stand in
-      let longer : length ((laid.pages ++ page) ++ []) ≡ length laid.pages + length page = ap length (append-nil (laid.pages ++ page)) ∙ length-append laid.pages page in
-      let s : Says part laid (row_entries 1 rows) = holds.says part (stand-front part base laid.pages page stand′) (omega (arith, longer, short)) in
-      let read : [] ≡ row_entries 1 rows =
-      ap (λ cells. map (leaf_entry part) cells) (sym (none-left base past (with_rows base nothing_laid 1 rows)))
-      ∙ ap (λ (leaves : List Child). flat_map (λ (child : Child). page_entries part (number_of child.place)) leaves ++ map (leaf_entry part) laid.cells) (sym (empty-leaves laid.leaves are))
-      ∙ s.read in
-      subst (TreeReads order part place) read
-      (empty-reads order part place (omega (arith, past)) (stand-page part place page size (stand-next part base laid.pages page holds.whole stand′)))
-
-  pub tree-reads : Reads (tree_of base rows)
-  tree-reads = subst Reads (sym (tree-over (grown base 1 rows))) (by-leaves (is_empty_list laid.leaves) refl)
+  -- the tree's pages are those of the rows and others behind them, with a leaf more where there is none
+  by-pages : (P : TreeBytes → Type 0) → (is_empty_list laid.leaves ≡ false → P (over (grown base 1 rows))) →
+      (is_empty_list laid.leaves ≡ true → P (over (record { base = base; pages = laid.pages ++ leaf_page []; leaves = (record { place = next_place base laid.pages; last = 0 }) ∷ [] }))) →
+      P (tree_of base rows)
+  by-pages P with-leaves without = subst P (sym (tree-over (grown base 1 rows))) (by-leaves (is_empty_list laid.leaves) refl)
     where
       added : Grown
       added = record { base = base; pages = laid.pages ++ leaf_page []; leaves = (record { place = next_place base laid.pages; last = 0 }) ∷ [] }
 
-      by-leaves : (test : Bool) → is_empty_list laid.leaves ≡ test → Reads (over (with_leaf (grown base 1 rows)))
-      by-leaves false is = subst (λ g. Reads (over g)) (some_leaf (grown base 1 rows) is) (some-read is)
-      by-leaves true is = subst (λ g. Reads (over g)) (sym (cond-true (is_empty_list laid.leaves) added (grown base 1 rows) is)) (none-read is)
+      by-leaves : (test : Bool) → is_empty_list laid.leaves ≡ test → P (over (with_leaf (grown base 1 rows)))
+      by-leaves false is = subst (λ g. P (over g)) (some_leaf (grown base 1 rows) is) (with-leaves is)
+      by-leaves true is = subst (λ g. P (over g)) (sym (cond-true (is_empty_list laid.leaves) added (grown base 1 rows) is)) (without is)
+
+  pages-within : length laid.pages ≤ length (tree_of base rows).bytes
+  pages-within =
+      by-pages (λ (tree : TreeBytes). length laid.pages ≤ length tree.bytes)
+      (λ _. omega (arith, length-append laid.pages (levels_pages 6 (next_place base laid.pages) laid.leaves)))
+      (λ _. omega (arith, ap length (append-nil (laid.pages ++ leaf_page [])), length-append laid.pages (leaf_page [])))
+
+  -- a tree has more bytes than rows, and nearly those of each record
+  pub rows-few : length rows ≤ length (tree_of base rows).bytes
+  rows-few = omega (arith, holds.few, ap length (none-left base past (with_rows base nothing_laid 1 rows)), pages-within)
+
+  pub rows-short : All (λ (e : Entry). length e.payload ≤ length (tree_of base rows).bytes + 4061) (row_entries 1 rows)
+  rows-short = λ k d lt. omega (arith, holds.short k d lt, pages-within)
+
+  module _ (order : Item → Item → Bool) (part : Part) where
+    -- what the tree of some leaves is to a reader
+    abbrev Reads : TreeBytes → Type 0
+    Reads tree = length tree.bytes < 2 ^ 50 → Stand part base tree.bytes → TreeReads order part tree.root (row_entries 1 rows)
+
+    some-read : is_empty_list laid.leaves ≡ false → Reads (over (grown base 1 rows))
+    some-read are short stand =
+        let above : ℕ = next_place base laid.pages in
+        let levels : List ℕ = levels_pages 6 above laid.leaves in
+        let longer : length (laid.pages ++ levels) ≡ length laid.pages + length levels = length-append laid.pages levels in
+        let s : Says part laid (row_entries 1 rows) = holds.says part (stand-front part base laid.pages levels stand) (omega (arith, longer, short)) in
+        let says-of : List Entry = flat_map (λ (child : Child). page_entries part (number_of child.place)) laid.leaves in
+        let read : says-of ≡ row_entries 1 rows =
+        sym (append-nil says-of) ∙ ap (λ cells. says-of ++ map (leaf_entry part) cells) (sym (none-left base past (with_rows base nothing_laid 1 rows))) ∙ s.read in
+        leaves-read order part above laid.leaves (row_entries 1 rows) (some-leaves laid.leaves are) (omega (arith, leaves-few, longer, short)) (omega (arith, past)) s.leaves read
+        (stand-next part base laid.pages levels holds.whole stand)
+
+    none-read : is_empty_list laid.leaves ≡ true → Reads (over (record { base = base; pages = laid.pages ++ leaf_page []; leaves = (record { place = next_place base laid.pages; last = 0 }) ∷ [] }))
+    none-read are short stand =
+        let place : ℕ = next_place base laid.pages in
+        let page : List ℕ = leaf_page [] in
+        let size : length page ≡ 4096 = length-leaf_page [] (omega arith) in
+        let stand′ : Stand part base (laid.pages ++ page) = subst (Stand part base) (append-nil (laid.pages ++ page)) stand in
+        let longer : length ((laid.pages ++ page) ++ []) ≡ length laid.pages + length page = ap length (append-nil (laid.pages ++ page)) ∙ length-append laid.pages page in
+        let s : Says part laid (row_entries 1 rows) = holds.says part (stand-front part base laid.pages page stand′) (omega (arith, longer, short)) in
+        let read : [] ≡ row_entries 1 rows =
+        ap (λ cells. map (leaf_entry part) cells) (sym (none-left base past (with_rows base nothing_laid 1 rows)))
+        ∙ ap (λ (leaves : List Child). flat_map (λ (child : Child). page_entries part (number_of child.place)) leaves ++ map (leaf_entry part) laid.cells) (sym (empty-leaves laid.leaves are))
+        ∙ s.read in
+        subst (TreeReads order part place) read
+        (empty-reads order part place (omega (arith, past)) (stand-page part place page size (stand-next part base laid.pages page holds.whole stand′)))
+
+    pub tree-reads : Reads (tree_of base rows)
+    tree-reads = by-pages Reads some-read none-read
 
 -- what a reader finds in a file's pages
 abbrev pub reading_order : PageMap → Item → Item → Bool
@@ -198,9 +218,19 @@ entries-read pages tall page entries shallow top rows =
     ap (λ h. map (entry_of Table 4096 part) (rows_of (tree_items (form_of Table no_order 4096 part) part h page))) (height-is (reading_order pages) part tall 20 page top shallow)
     ∙ rows
 
+-- the root of a tree, where a reader finds it, and the rows under it
+pub record Found (pages : PageMap) (root : ℕ) (entries : List Entry) : Type 0 where
+  pub size : length (all_pages pages root) ≡ 4096
+  pub read : entries_at Table 4096 pages root ≡ entries
+
+pub tree-found : (pages : PageMap) (base : ℕ) (rows : List (List ℕ)) → 0 < base → All (λ row. 1 < length row) rows → length (tree_of base rows).bytes < 2 ^ 50 →
+    Stand (all_pages pages) base (tree_of base rows).bytes → Found pages (number_of (tree_of base rows).root) (row_entries 1 rows)
+tree-found pages base rows past some short stand =
+    let part : Part = all_pages pages in
+    let root : ℕ = number_of (tree_of base rows).root in
+    let t : TreeReads (reading_order pages) part (tree_of base rows).root (row_entries 1 rows) = tree-reads base rows past some (reading_order pages) part short stand in
+    record { size = t.top.0.size; read = entries-read pages t.tall root (row_entries 1 rows) (omega (arith, t.shallow)) t.top t.rows }
+
 pub tree-reads-back : (pages : PageMap) (base : ℕ) (rows : List (List ℕ)) → 0 < base → All (λ row. 1 < length row) rows → length (tree_of base rows).bytes < 2 ^ 50 →
     Stand (all_pages pages) base (tree_of base rows).bytes → entries_at Table 4096 pages (number_of (tree_of base rows).root) ≡ row_entries 1 rows
-tree-reads-back pages base rows past some short stand =
-    let part : Part = all_pages pages in
-    let t : TreeReads (reading_order pages) part (tree_of base rows).root (row_entries 1 rows) = tree-reads (reading_order pages) part base rows past some short stand in
-    entries-read pages t.tall (number_of (tree_of base rows).root) (row_entries 1 rows) (omega (arith, t.shallow)) t.top t.rows
+tree-reads-back pages base rows past some short stand = (tree-found pages base rows past some short stand).read

@@ -12,11 +12,13 @@ use Rattle.db_records.specs.Laws.{HoldsCells}
 use Rattle.db_records.specs.Varint.{varint}
 use Rattle.db_pages.specs.declared.child.Child.{Child}
 use Rattle.db_pages.specs.Grown.{tree_of}
+use Rattle.db_pages.specs.Image.{Tabled, image}
 use Rattle.db_pages.specs.Laid.{chain, long_cell}
 use Rattle.db_pages.specs.Levels.{dividers, last_child, page_above}
 use Rattle.db_pages.specs.Numbers.{four_bytes, number_of}
 use Rattle.db_reading.specs.Entries.{row_entries}
 use Rattle.db_reading.specs.Pages.{Stand}
+use Rattle.db_reading.specs.Tables.{HoldsTables, IsStorable}
 
 -- a page above others of a table
 abbrev pub inner_kind : Kind
@@ -50,3 +52,8 @@ abbrev pub TreeReadsBack : Type 0
 TreeReadsBack =
     (pages : PageMap) (base : ℕ) (rows : List (List ℕ)) → 0 < base → All (λ row. 1 < length row) rows → length (tree_of base rows).bytes < 2 ^ 50 →
     Stand (all_pages pages) base (tree_of base rows).bytes → entries_at Table 4096 pages (number_of (tree_of base rows).root) ≡ row_entries 1 rows
+
+-- a database of tables holds them
+abbrev pub ImageReadsBack : Type 0
+ImageReadsBack =
+    (tables : List Tabled) → All (λ (table : Tabled). All IsStorable table.rows) tables → length (image tables) < 2 ^ 50 → HoldsTables (image tables) tables

@@ -1,3 +1,4 @@
 pub mod Pages
 pub mod Entries
+pub mod Tables
 pub mod Laws

@@ -1,5 +1,5 @@
 //! Laws over the definitions: what is written reads back.
-ghost use Rattle.db_reading.specs.Laws.{ChainReadsBack, DividerReadsBack, PageReadsBack, TreeReadsBack};
+ghost use Rattle.db_reading.specs.Laws.{ChainReadsBack, DividerReadsBack, ImageReadsBack, PageReadsBack, TreeReadsBack};
 
 /// A cell of a page above others names one of them and the last rowid under it.
 pub fn divider_reads_back()
@@ -19,4 +19,9 @@ pub fn chain_reads_back()
 /// Under the root of a tree a reader finds its rows, in the order of their rowids.
 pub fn tree_reads_back()
     ensures { TreeReadsBack }
+{}
+
+/// A reader that begins at the first page finds the list of tables, and under each root that it names the rows of that table.
+pub fn image_reads_back()
+    ensures { ImageReadsBack }
 {}

@@ -1,0 +1,57 @@
+-- The first page of a file, as it is read.
+use Rattle.std.proofs.Common.{◌≡◌, ℕ, suc, ◌==◌, ◌||◌, ◌<◌, false, Bool, if◌then◌else◌, List, [], length, map, get_or, refl, sym, ◌∙◌, ap, arith}
+use Rattle.sqlite_pages.specs.PageMap.{PageMap}
+use Rattle.sqlite_format.specs.declared.kind.Tree.TheVariants.{Table}
+use Rattle.sqlite_format.specs.Page.{cell_count, cell_from, cell_offset, page_cells, right_child}
+use Rattle.std.specs.List.{range_with_len}
+use Rattle.sqlite_btree.specs.Part.{Part, all_pages}
+use Rattle.sqlite_btree.specs.Items.{Item, rows_of}
+use Rattle.sqlite_btree.specs.Tree.{cells_of, fan_items, header_of, right_of, tree_items}
+use Rattle.sqlite_btree.specs.Chain.{Entry, entry_of}
+use Rattle.sqlite_btree.specs.Stored.{entries_at, form_of, height_from, no_order}
+use Rattle.db_pages.specs.Image.{first_page}
+use Rattle.db_pages.specs.Numbers.{number_of}
+use Rattle.db_reading.specs.Laws.{inner_kind}
+use Rattle.db_reading.proofs.Inner.{four-read}
+use Rattle.db_reading.proofs.Levels.{form}
+use Rattle.db_reading.proofs.Trees.{TreeReads, height-is, reading_order}
+
+pub first-size : (count root : ℕ) → length (first_page count root) ≡ 4096
+unfolding first_page
+first-size count root = refl
+
+first-flag : (count root : ℕ) → get_or (first_page count root) 100 0 ≡ 5
+unfolding first_page
+first-flag count root = refl
+
+first-right : (count root : ℕ) → right_child (first_page count root) 100 ≡ root
+unfolding first_page right_child
+first-right count root = four-read root
+
+first-cells : (count root : ℕ) → page_cells inner_kind (first_page count root) 100 ≡ []
+unfolding first_page page_cells cell_count cell_offset
+first-cells count root = refl
+
+first-header : header_of 1 ≡ 100
+unfolding header_of
+first-header = refl
+
+-- what stands under the root of the list of tables stands under the first page
+pub first-reads : (pages : PageMap) (count place : ℕ) (entries : List Entry) → all_pages pages 1 ≡ first_page count (number_of place) →
+    TreeReads (reading_order pages) (all_pages pages) place entries → entries_at Table 4096 pages 1 ≡ entries
+unfolding entries_at
+first-reads pages count place entries is t =
+    let part : Part = all_pages pages in
+    let root : ℕ = number_of place in
+    let order : Item → Item → Bool = reading_order pages in
+    let flag : get_or (part 1) (header_of 1) 0 ≡ 5 = ap (λ k. get_or (part 1) k 0) first-header ∙ ap (λ p. get_or p 100 0) is ∙ first-flag count root in
+    let right : right_of part 1 ≡ root = ap (λ k. right_child (part 1) k) first-header ∙ ap (λ p. right_child p 100) is ∙ first-right count root in
+    let cells : cells_of (form order part) false part 1 ≡ [] =
+    ap (λ k. page_cells inner_kind (part 1) k) first-header ∙ ap (λ p. page_cells inner_kind p 100) is ∙ first-cells count root in
+    let tall : height_from 20 part 1 ≡ suc t.tall =
+    ap (λ f. if (f == 13) || (f == 10) then 0 else suc (height_from 19 part (right_of part 1))) flag
+    ∙ ap (λ n. suc (height_from 19 part n)) right ∙ ap suc (height-is order part t.tall 19 root t.top t.shallow) in
+    ap (λ h. map (entry_of Table 4096 part) (rows_of (tree_items (form order part) part h 1))) tall
+    ∙ ap (λ cs. map (entry_of Table 4096 part) (rows_of (fan_items (form order part) (tree_items (form order part) part t.tall) cs (right_of part 1)))) cells
+    ∙ ap (λ n. map (entry_of Table 4096 part) (rows_of (tree_items (form order part) part t.tall n))) right
+    ∙ t.rows
