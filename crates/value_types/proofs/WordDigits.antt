@@ -104,10 +104,10 @@ flag_below : (b : ℕ) → b < 256 → T (flag_tells b)
 flag_below b B = every_below flag_tells 256 tt b B
 
 -- the flag of a byte is 0 just where it is less than ten
-flag_is : (b : ℕ) → b < 256 → eqb (flag b) 0 ≡ ltb b 10
+pub flag_is : (b : ℕ) → b < 256 → eqb (flag b) 0 ≡ ltb b 10
 flag_is b B = beq_is (eqb (flag b) 0) (ltb b 10) (and_l (beq (eqb (flag b) 0) (ltb b 10)) (ltb (bit_or (bit_and b 0x0F + 0x06) b) 256) (flag_below b B))
 
-joint_below : (b : ℕ) → b < 256 → bit_or (bit_and b 0x0F + 0x06) b < 256
+pub joint_below : (b : ℕ) → b < 256 → bit_or (bit_and b 0x0F + 0x06) b < 256
 joint_below b B =
     ltb-true (bit_or (bit_and b 0x0F + 0x06) b) 256
     (t_true (ltb (bit_or (bit_and b 0x0F + 0x06) b) 256) (and_r (beq (eqb (flag b) 0) (ltb b 10)) (ltb (bit_or (bit_and b 0x0F + 0x06) b) 256) (flag_below b B)))
@@ -130,7 +130,7 @@ flags_of ws is =
     ∙ and_lanes (λ b. bit_or (bit_and b 0x0F + 0x06) b) (λ b. 0xF0) ws
     (Each1-weaker (λ b. b < 256) (λ b. (bit_or (bit_and b 0x0F + 0x06) b < 256) × (0xF0 < 256)) (λ b B. (joint_below b B, omega arith)) ws is.1)
 
-zero_lane : (x n : ℕ) → eqb (x + 256 * n) 0 ≡ (eqb x 0 && eqb n 0)
+pub zero_lane : (x n : ℕ) → eqb (x + 256 * n) 0 ≡ (eqb x 0 && eqb n 0)
 zero_lane zero zero = refl
 zero_lane zero (suc n) = ne_eqb (0 + 256 * suc n) 0 (omega arith) ∙ sym (ne_eqb (suc n) 0 (omega arith))
 zero_lane (suc x) n = ne_eqb (suc x + 256 * n) 0 (omega arith) ∙ sym (ap (λ t. t && eqb n 0) (ne_eqb (suc x) 0 (omega arith)))

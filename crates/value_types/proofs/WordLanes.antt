@@ -26,7 +26,7 @@ beq_is false false t = refl
 
 -- ---- lists of eight
 
-pub eight : (P : List ℕ → Type 0) → ((a b c d e f g h : ℕ) → P (a ∷ b ∷ c ∷ d ∷ e ∷ f ∷ g ∷ h ∷ [])) → (xs : List ℕ) → length xs ≡ 8 → P xs
+pub eight : {A : Type 0} (P : List A → Type 0) → ((a b c d e f g h : A) → P (a ∷ b ∷ c ∷ d ∷ e ∷ f ∷ g ∷ h ∷ [])) → (xs : List A) → length xs ≡ 8 → P xs
 eight P each [] is = absurd (omega arith)
 eight P each (a ∷ []) is = absurd (omega arith)
 eight P each (a ∷ b ∷ []) is = absurd (omega arith)
@@ -44,7 +44,7 @@ turned : (x n : ℕ) → x + 256 * n ≡ n * 2 ^ 8 + x
 turned x n = omega arith
 
 module _ (op : ℕ → ℕ → ℕ) (empty : op 0 0 ≡ 0) (block : (a b r s : ℕ) → r < 2 ^ 8 → s < 2 ^ 8 → op (a * 2 ^ 8 + r) (b * 2 ^ 8 + s) ≡ op a b * 2 ^ 8 + op r s) where
-  pub both_lanes : (f g : ℕ → ℕ) (xs : List ℕ) → Each1 (λ b. (f b < 256) × (g b < 256)) xs →
+  pub both_lanes : {A : Type 0} (f g : A → ℕ) (xs : List A) → Each1 (λ b. (f b < 256) × (g b < 256)) xs →
       op (number_l 256 (map f xs)) (number_l 256 (map g xs)) ≡ number_l 256 (map (λ b. op (f b) (g b)) xs)
   both_lanes f g [] each = empty
   both_lanes f g (x ∷ xs) each =
@@ -53,17 +53,17 @@ module _ (op : ℕ → ℕ → ℕ) (empty : op 0 0 ≡ 0) (block : (a b r s : �
       ∙ ap (λ n. n * 2 ^ 8 + op (f x) (g x)) (both_lanes f g xs each.1)
       ∙ sym (turned (op (f x) (g x)) (number_l 256 (map (λ b. op (f b) (g b)) xs)))
 
-pub sum_lanes : (f g : ℕ → ℕ) (xs : List ℕ) → number_l 256 (map f xs) + number_l 256 (map g xs) ≡ number_l 256 (map (λ b. f b + g b) xs)
+pub sum_lanes : {A : Type 0} (f g : A → ℕ) (xs : List A) → number_l 256 (map f xs) + number_l 256 (map g xs) ≡ number_l 256 (map (λ b. f b + g b) xs)
 sum_lanes f g [] = refl
 sum_lanes f g (x ∷ xs) = omega (arith, sum_lanes f g xs)
 
-pub and_lanes : (f g : ℕ → ℕ) (xs : List ℕ) → Each1 (λ b. (f b < 256) × (g b < 256)) xs → bit_and (number_l 256 (map f xs)) (number_l 256 (map g xs)) ≡ number_l 256 (map (λ b. bit_and (f b) (g b)) xs)
+pub and_lanes : {A : Type 0} (f g : A → ℕ) (xs : List A) → Each1 (λ b. (f b < 256) × (g b < 256)) xs → bit_and (number_l 256 (map f xs)) (number_l 256 (map g xs)) ≡ number_l 256 (map (λ b. bit_and (f b) (g b)) xs)
 and_lanes f g xs each = both_lanes bit_and refl (and_block 8) f g xs each
 
-pub or_lanes : (f g : ℕ → ℕ) (xs : List ℕ) → Each1 (λ b. (f b < 256) × (g b < 256)) xs → bit_or (number_l 256 (map f xs)) (number_l 256 (map g xs)) ≡ number_l 256 (map (λ b. bit_or (f b) (g b)) xs)
+pub or_lanes : {A : Type 0} (f g : A → ℕ) (xs : List A) → Each1 (λ b. (f b < 256) × (g b < 256)) xs → bit_or (number_l 256 (map f xs)) (number_l 256 (map g xs)) ≡ number_l 256 (map (λ b. bit_or (f b) (g b)) xs)
 or_lanes f g xs each = both_lanes bit_or refl (or_block 8) f g xs each
 
-pub xor_lanes : (f g : ℕ → ℕ) (xs : List ℕ) → Each1 (λ b. (f b < 256) × (g b < 256)) xs → bit_xor (number_l 256 (map f xs)) (number_l 256 (map g xs)) ≡ number_l 256 (map (λ b. bit_xor (f b) (g b)) xs)
+pub xor_lanes : {A : Type 0} (f g : A → ℕ) (xs : List A) → Each1 (λ b. (f b < 256) × (g b < 256)) xs → bit_xor (number_l 256 (map f xs)) (number_l 256 (map g xs)) ≡ number_l 256 (map (λ b. bit_xor (f b) (g b)) xs)
 xor_lanes f g xs each = both_lanes bit_xor refl (xor_block 8) f g xs each
 
 -- ---- every other lane

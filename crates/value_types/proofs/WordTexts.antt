@@ -1,5 +1,5 @@
 -- Texts of one to eight bytes at the front of words: what their bytes are worth, and what they spell.
-use Rattle.std.proofs.Common.{◌≡◌, ℕ, zero, suc, ◌+◌, ◌-◌, ◌*◌, ◌/◌, ◌%◌, ◌^◌, ◌<◌, ◌≤◌, Bool, true, false, not, ◌&&◌, ◌||◌, T, eqb, ltb, bit_xor, refl, sym, ap, ◌∙◌, subst, arith, List, [], ◌∷◌, ◌++◌, length, map, replicate, ltb-true, eqb-true, cond, get_or, length-append, Some, None}
+use Rattle.std.proofs.Common.{◌≡◌, ℕ, zero, suc, ◌+◌, ◌-◌, ◌*◌, ◌/◌, ◌%◌, ◌^◌, ◌<◌, ◌≤◌, Bool, true, false, not, ◌&&◌, ◌||◌, T, eqb, ltb, bit_xor, refl, sym, ap, ◌∙◌, subst, arith, List, [], ◌∷◌, ◌++◌, length, map, replicate, ltb-true, eqb-true, cond, get_or, length-append, length-drop, drop, Some, None}
 use Rattle.std.specs.Prelude.{slice_range}
 use Rattle.std.specs.List.{list_all}
 use Rattle.std.specs.Char.{is_ascii_digit}
@@ -8,7 +8,7 @@ use Rattle.value_types.specs.Digits.{decimal_value, natural_of}
 use Rattle.std.specs.Simd.Lanes.{Each1, number_l}
 use Rattle.std.proofs.lemmas.Bool.{and_parts}
 use Rattle.std.proofs.lemmas.Nat.{mod-mul-add, div-mul-add, xor_of_8}
-use Rattle.std.proofs.lemmas.List.{map-id, map-append, length-map}
+use Rattle.std.proofs.lemmas.List.{take_all, map-id, map-append, length-map}
 use Rattle.std.proofs.lemmas.Simd.{Each1-weaker, Each1-from_get_or}
 use Rattle.std.proofs.Math.Nat.{pow-suc, mul-lt-mul_of_pos_right, mul_comm}
 use lib.Ieee.Fits.{and_l, and_r}
@@ -28,7 +28,7 @@ number-append (x ∷ xs) ys =
       longer : (x n p m : ℕ) → x + 256 * (n + p * m) ≡ (x + 256 * n) + (p * 256) * m
       longer x n p m = grind arith
 
-number-below : (xs : List ℕ) → Each1 (λ b. b < 256) xs → number_l 256 xs < 256 ^ length xs
+pub number-below : (xs : List ℕ) → Each1 (λ b. b < 256) xs → number_l 256 xs < 256 ^ length xs
 number-below [] each = omega arith
 number-below (x ∷ xs) each = omega (arith, number-below xs each.1, each.0, pow-suc 256 (length xs))
 
@@ -66,21 +66,21 @@ worth_tells b = beq (is_worth_of_digit (worth b)) (is_ascii_digit b) && (ltb (wo
 worth_tests : (b : ℕ) → b < 256 → T (worth_tells b)
 worth_tests b B = every_below worth_tells 256 tt b B
 
-worth_digit : (b : ℕ) → b < 256 → is_worth_of_digit (worth b) ≡ is_ascii_digit b
+pub worth_digit : (b : ℕ) → b < 256 → is_worth_of_digit (worth b) ≡ is_ascii_digit b
 worth_digit b B =
     beq_is (is_worth_of_digit (worth b)) (is_ascii_digit b)
     (and_l (beq (is_worth_of_digit (worth b)) (is_ascii_digit b)) (ltb (worth b) 256 && (not (is_ascii_digit b) || eqb (worth b) (b - 48))) (worth_tests b B))
 
-worth_below : (b : ℕ) → b < 256 → worth b < 256
+pub worth_below : (b : ℕ) → b < 256 → worth b < 256
 worth_below b B = xor_of_8 b 48 B (omega arith)
 
-worth_is : (b : ℕ) → b < 256 → is_ascii_digit b ≡ true → worth b ≡ b - 48
+pub worth_is : (b : ℕ) → b < 256 → is_ascii_digit b ≡ true → worth b ≡ b - 48
 worth_is b B digit =
     let tests = and_r (beq (is_worth_of_digit (worth b)) (is_ascii_digit b)) (ltb (worth b) 256 && (not (is_ascii_digit b) || eqb (worth b) (b - 48))) (worth_tests b B) in
     let last = and_r (ltb (worth b) 256) (not (is_ascii_digit b) || eqb (worth b) (b - 48)) tests in
     eqb-true (worth b) (b - 48) (t_true (eqb (worth b) (b - 48)) (subst (λ t. T (not t || eqb (worth b) (b - 48))) digit last))
 
-worths_below : (bytes : List ℕ) → Each1 (λ b. b < 256) bytes → Each1 (λ b. b < 256) (map worth bytes)
+pub worths_below : (bytes : List ℕ) → Each1 (λ b. b < 256) bytes → Each1 (λ b. b < 256) (map worth bytes)
 worths_below [] each = tt
 worths_below (b ∷ bytes) each = (worth_below b each.0, worths_below bytes each.1)
 
@@ -88,7 +88,7 @@ each_front : (xs ys : List ℕ) → Each1 (λ b. b < 256) (xs ++ ys) → Each1 (
 each_front [] ys each = tt
 each_front (x ∷ xs) ys each = (each.0, each_front xs ys each.1)
 
-xored : (bytes : List ℕ) → IsWord bytes → bit_xor (word_of bytes) 0x3030303030303030 ≡ word_of (map worth bytes)
+pub xored : (bytes : List ℕ) → IsWord bytes → bit_xor (word_of bytes) 0x3030303030303030 ≡ word_of (map worth bytes)
 xored bytes is =
     let zeros : number_l 256 (map (λ (x : ℕ). 0x30) bytes) ≡ 0x3030303030303030 = eight (λ bs. number_l 256 (map (λ (x : ℕ). 0x30) bs) ≡ 0x3030303030303030) (λ a b c d e f g h. refl) bytes is.0 in
     sym (λ i. bit_xor (number_l 256 (map-id bytes i)) (zeros i))
@@ -170,7 +170,7 @@ module _ (text more : List ℕ) (count : ℕ) (long : length text ≡ count) (so
 
 -- ---- words that begin with a text
 
-IsWord-slice : (bytes : List ℕ) (from : ℕ) → from + 8 ≤ length bytes → ((k : ℕ) → k < length bytes → get_or bytes k 0 < 256) → IsWord (slice_range bytes from (from + 8))
+pub IsWord-slice : (bytes : List ℕ) (from : ℕ) → from + 8 ≤ length bytes → ((k : ℕ) → k < length bytes → get_or bytes k 0 < 256) → IsWord (slice_range bytes from (from + 8))
 IsWord-slice bytes from within fit =
     let size : length (slice_range bytes from (from + 8)) ≡ 8 = length-slice bytes from (from + 8) within ∙ omega arith in (
       size,
@@ -233,3 +233,13 @@ begins_behind bytes from end word first second room within fit is =
       zeros_behind : (xs : List ℕ) (k : ℕ) → number_l 256 (xs ++ replicate k 0) ≡ number_l 256 xs
       zeros_behind [] k = zero_word k
       zeros_behind (x ∷ xs) k = omega (arith, zeros_behind xs k)
+
+-- the last bytes
+pub begins_at_end : (text : List ℕ) (count word : ℕ) → count ≤ 8 → 8 ≤ length text → ((k : ℕ) → k < length text → get_or text k 0 < 256) →
+    word ≡ word_of (slice_range text (length text - 8) (length text - 8 + 8)) → BeginsWord (drop (length text - count) text) (word / 2 ^ (8 * (8 - count)))
+begins_at_end text count word few long fit is =
+    let from : ℕ = length text - count in
+    let whole : slice_range text from (length text) ≡ drop from text = take_all (length text - from) (drop from text) (omega (arith, length-drop from text)) in
+    let size : length text - from ≡ count = omega arith in
+    let begins = begins_behind text from (length text) word (omega arith) (omega arith) long (omega arith) fit is in
+    subst (λ k. BeginsWord (drop from text) (word / 2 ^ (8 * (8 - k)))) size (subst (λ t. BeginsWord t (word / 2 ^ (8 * (8 - (length text - from))))) whole begins)

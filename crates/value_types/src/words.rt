@@ -1,8 +1,9 @@
 // Up to eight digits at once, in a word of eight bytes of which the first counts least.
-ghost use Rattle.std.specs.Prelude.{◌≡◌, ◌≤◌, ◌<◌, ◌+◌, ◌-◌, ◌++◌, List, ℕ, true, length, map, replicate, slice_range, IfSome, Some};
-ghost use Rattle.std.specs.List.{list_all};
-ghost use Rattle.value_types.specs.Digits.{natural_of};
-ghost use Rattle.value_types.specs.Words.{BeginsWord, IsWord, is_worth_of_digit, spelled, word_of, worth};
+ghost use Rattle.std.specs.Prelude.{◌≡◌, ◌≤◌, ◌<◌, ◌+◌, ◌-◌, ◌++◌, if◌then◌else◌, List, ℕ, true, drop, length, map, replicate, slice_range, IfSome, None, Some};
+ghost use Rattle.std.specs.Char.{is_ascii_digit};
+ghost use Rattle.std.specs.List.{list_all, prefix_len};
+ghost use Rattle.value_types.specs.Digits.{follows_picture, natural_of};
+ghost use Rattle.value_types.specs.Words.{BeginsWord, IsPicture, IsWord, is_worth_of_digit, pairs_of, spelled, word_of, worth, worths_by};
 
 /// The eight bytes from a place on.
 #[inline(always)]
@@ -93,10 +94,39 @@ pub(crate) fn few_digits_in(bytes: &[u8], from: usize, end: usize) -> Option<u64
     natural(word_of_text(bytes, from, end)?, end - from)
 }
 
-/// How many digits stand at the front of a word, eight at most. It says where to look: `natural` looks at each of them.
+/// What eight bytes spell two by two, each number in the place of its first digit, where they follow a picture. Of its two words
+/// one has in each place the byte that is worth nothing there, a zero or a mark, and the other what carries the worth of any
+/// byte that doesn't follow the picture into the upper half of its place.
+#[inline(always)]
+pub(crate) fn digit_pairs(word: u64, naughts: u64, carries: u64) -> Option<u64>
+    ensures { (picture text : List ℕ) → IsPicture picture naughts carries → IsWord text → word ≡ word_of text
+        → result ≡ (if follows_picture picture text then Some (word_of (pairs_of (worths_by picture text))) else None) }
+{
+    let worths = word ^ naughts;
+    let carried = (worths & 0x0F0F_0F0F_0F0F_0F0F).wrapping_add(carries);
+    if (carried | worths) & 0xF0F0_F0F0_F0F0_F0F0 == 0 {
+        Some(worths.wrapping_mul(10).wrapping_add(worths >> 8))
+    } else {
+        None
+    }
+}
+
+/// The number that the last one to eight bytes of a text of eight or more spell.
+#[inline(always)]
+pub(crate) fn last_digits(text: &[u8], count: usize) -> Option<u64>
+    requires few { (0 < count) × (count ≤ 8) }
+    requires long { 8 ≤ length text.now }
+    ensures value { result ≡ natural_of (drop (length text.now - count) text.now) }
+    ensures small { IfSome result (λ number. number < 100_000_000) }
+{
+    natural(word_at(text, text.len() - 8) >> (8 * (8 - count)), count)
+}
+
+/// How many digits stand at the front of a word.
 #[inline(always)]
 pub(crate) fn digit_count(word: u64) -> usize
-    ensures { result ≤ 8 }
+    ensures most { result ≤ 8 }
+    ensures value { (text : List ℕ) → IsWord text → word ≡ word_of text → result ≡ prefix_len is_ascii_digit text }
 {
     let worths = word ^ 0x3030_3030_3030_3030;
     // The top bit of the first byte that is worth ten or more; a carry out of it reaches only those behind it.

@@ -1,5 +1,6 @@
 // A number of 64 bits at the front of a text that goes on behind it, as a field in its row.
-ghost use Rattle.std.specs.Prelude.{◌≡◌, ◌≤◌, ◌<◌, ◌^◌, true, length, slice_range, IfSome, Some};
+ghost use Rattle.std.specs.Prelude.{◌≡◌, ◌≤◌, ◌<◌, ◌^◌, false, true, length, slice_index, slice_range, IfSome, Some};
+ghost use Rattle.std.specs.Char.{is_ascii_digit};
 ghost use Rattle.std.specs.List.{list_all};
 ghost use Rattle.value_types.specs.Cast.{bigint_of, trimmed};
 ghost use Rattle.value_types.specs.Digits.{is_numeral, natural_of};
@@ -34,6 +35,7 @@ fn digits_front(bytes: &[u8], from: usize) -> Option<FrontDigits>
     requires within { from ≤ length bytes.now }
     ensures within { IfSome result (λ front. (from < front.end) × (front.end < length bytes.now)) }
     ensures value { IfSome result (λ front. (natural_of (slice_range bytes.now from front.end) ≡ Some front.number) × (front.number < 2 ^ 63)) }
+    ensures whole { IfSome result (λ front. is_ascii_digit (slice_index bytes.now front.end) ≡ false) }
 {
     if bytes.len() - from < 16 {
         return None;
@@ -59,14 +61,14 @@ fn digits_front(bytes: &[u8], from: usize) -> Option<FrontDigits>
 }
 
 /// The number that digits from a place on spell, behind a minus if one is there, as many digits as stand there. None where
-/// `cast_bigint_in` has to be asked: at a space or a plus, of more than fifteen digits, and near the bytes' end. No clause
-/// speaks of the byte behind the digits: who looks for a field's end compares it with the delimiter, which is no digit.
+/// `cast_bigint_in` has to be asked: at a space or a plus, of more than fifteen digits, and near the bytes' end.
 #[inline(always)]
 pub fn bigint_front(bytes: &[u8], from: usize) -> Option<FrontNumber>
     requires within { from ≤ length bytes.now }
     ensures within { IfSome result (λ front. (from < front.end) × (front.end < length bytes.now)) }
     ensures value { IfSome result (λ front. bigint_of (trimmed (slice_range bytes.now from front.end)) ≡ Some front.number) }
     ensures plain { IfSome result (λ front. list_all is_numeral (slice_range bytes.now from front.end) ≡ true) }
+    ensures whole { IfSome result (λ front. is_ascii_digit (slice_index bytes.now front.end) ≡ false) }
 {
     if from < bytes.len() && bytes[from] == b'-' {
         let front = digits_front(bytes, from + 1)?;
