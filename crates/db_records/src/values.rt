@@ -1,7 +1,8 @@
 // Values of a row: the type of each, and its bytes.
-ghost use Rattle.std.specs.Prelude.{◌≡◌, ◌<◌, ◌++◌, OnOk};
+ghost use Rattle.std.specs.Prelude.{◌≡◌, ◌+◌, ◌*◌, ◌<◌, ◌≤◌, ◌++◌, length, OnOk};
 ghost use Rattle.sqlite_value.specs.declared.value.Value.TheVariants.{Blob, Int, Null, Text};
 ghost use Rattle.db_records.specs.Record.{type_bytes, value_bytes};
+ghost use Rattle.db_records.specs.Varint.{varint};
 ghost use Rattle.sqlite_record.specs.Serial.{int_serial, serial_size};
 
 use crate::appending::append;
@@ -11,17 +12,38 @@ use csv_source::NoMemory;
 /// From so many bytes on the type of a text or of bytes isn't counted.
 const MOST_BYTES: usize = 1 << 62;
 
+/// The type of a text without bytes. One byte more is two more.
+const TEXT: u64 = 13;
+
+/// The type of bytes that are no text, where there are none.
+const BLOB: u64 = 12;
+
+/// Appends the type of so many bytes of a kind, and these.
+#[inline(always)]
+fn push_sized(
+    types: &mut Vec<u8>,
+    body: &mut Vec<u8>,
+    kind: u64,
+    bytes: &[u8],
+) -> Result<(), NoMemory>
+    requires known { kind ≤ 13 }
+    ensures types { OnOk result (types.new.items ≡ types.old.items ++ varint (kind + 2 * length bytes.now)) }
+    ensures body { OnOk result (body.new.items ≡ body.old.items ++ bytes.now) }
+{
+    if bytes.len() >= MOST_BYTES {
+        return Err(NoMemory);
+    }
+    push_varint(types, kind + 2 * bytes.len() as u64)?;
+    append(body, bytes)
+}
+
 /// Appends the type of a text and its bytes.
 #[inline(always)]
 pub fn push_text(types: &mut Vec<u8>, body: &mut Vec<u8>, text: &[u8]) -> Result<(), NoMemory>
     ensures types { OnOk result (types.new.items ≡ types.old.items ++ type_bytes (Text text.now)) }
     ensures body { OnOk result (body.new.items ≡ body.old.items ++ value_bytes (Text text.now)) }
 {
-    if text.len() >= MOST_BYTES {
-        return Err(NoMemory);
-    }
-    push_varint(types, 13 + 2 * text.len() as u64)?;
-    append(body, text)
+    push_sized(types, body, TEXT, text)
 }
 
 /// Appends the type of bytes that are no text, and these bytes.
@@ -30,11 +52,7 @@ pub fn push_blob(types: &mut Vec<u8>, body: &mut Vec<u8>, blob: &[u8]) -> Result
     ensures types { OnOk result (types.new.items ≡ types.old.items ++ type_bytes (Blob blob.now)) }
     ensures body { OnOk result (body.new.items ≡ body.old.items ++ value_bytes (Blob blob.now)) }
 {
-    if blob.len() >= MOST_BYTES {
-        return Err(NoMemory);
-    }
-    push_varint(types, 12 + 2 * blob.len() as u64)?;
-    append(body, blob)
+    push_sized(types, body, BLOB, blob)
 }
 
 /// The type of a number.
