@@ -1,7 +1,7 @@
 -- The page of the locks in a text that grows.
 use Rattle.std.proofs.Common.{◌≡◌, ℕ, zero, suc, ◌+◌, ◌-◌, ◌^◌, ◌<◌, ◌≤◌, List, [], ◌∷◌, ◌++◌, length, take, drop, replicate, sym, ◌∙◌, ap, arith, append_assoc, length-append, nat_le}
 use Rattle.std.proofs.lemmas.Bool.{cond-true, cond-false, le-leb, lt-leb}
-use Rattle.std.proofs.lemmas.List.{take-append-le, drop-append-le}
+use Rattle.std.proofs.lemmas.List.{take-append-le, drop-append-le, take-append-drop, length-replicate}
 use Rattle.db_pages.specs.Image.{with_lock_page}
 
 take_past : (xs ys : List ℕ) (n : ℕ) → length xs ≤ n → take n (xs ++ ys) ≡ xs ++ take (n - length xs) ys
@@ -64,3 +64,11 @@ piece_round so_far piece front back zeros old first second new len short past is
     ∙ ap (λ xs. xs ++ (replicate 4096 0 ++ back)) (start ∙ taken)
     ∙ ap (λ xs. take (2 ^ 30) (so_far ++ piece) ++ (replicate 4096 0 ++ xs)) left
     ∙ sym (long_split (so_far ++ piece) longer)
+
+pub long-size : (bytes : List ℕ) → 2 ^ 30 < length bytes → length (with_lock_page bytes) ≡ length bytes + 4096
+long-size bytes long =
+    split-size (take (2 ^ 30) bytes) (replicate 4096 0) (drop (2 ^ 30) bytes) bytes (with_lock_page bytes) (long_split bytes long) (take-append-drop (2 ^ 30) bytes) (length-replicate {A = ℕ} 4096 0)
+  where
+    split-size : (low zeros high all file : List ℕ) → file ≡ low ++ (zeros ++ high) → low ++ high ≡ all → length zeros ≡ 4096 → length file ≡ length all + 4096
+    split-size low zeros high all file is whole size =
+        omega (arith, ap length is, ap length whole, size, length-append low (zeros ++ high), length-append zeros high, length-append low high)

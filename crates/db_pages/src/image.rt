@@ -1,5 +1,5 @@
 // The whole file.
-ghost use Rattle.std.specs.Prelude.{◌≡◌, IfOk, OnOk};
+ghost use Rattle.std.specs.Prelude.{◌≡◌, ◌<◌, ◌^◌, length, IfOk, OnOk};
 ghost use Rattle.db_pages.specs.Image.{image_over, no_table, with_table};
 ghost use Rattle.db_pages.specs.Laid.{next_place};
 
@@ -72,9 +72,10 @@ impl Image {
         Ok(())
     }
 
-    /// The file. No page is copied but those of one piece, round its first GiB.
+    /// The file, of fewer than 2^32 pages. No page is copied but those of one piece, round its first GiB.
     pub fn finish(self) -> Result<Pieces, NoMemory>
-        ensures { IfOk result (λ text. text ≡ image_over self) }
+        ensures value { IfOk result (λ text. text ≡ image_over self) }
+        ensures few { IfOk result (λ text. length text < 2 ^ 44) }
     {
         let base = self.next_place();
         let Image {

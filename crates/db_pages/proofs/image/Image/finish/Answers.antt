@@ -1,10 +1,10 @@
-use Rattle.std.proofs.Common.{◌≡◌, ◌+◌, ◌/◌, ◌++◌, ◌∙◌, List, ℕ, Vec, Global, length, ap, sym, arith}
+use Rattle.std.proofs.Common.{◌≡◌, ◌+◌, ◌/◌, ◌^◌, ◌<◌, ◌++◌, ◌∙◌, List, ℕ, Vec, Global, length, ap, sym, arith}
 use Rattle.std.proofs.lemmas.Result.{IfOk-weaker}
 use Rattle.db_pages.specs.Grown.{TreeBytes, tree_of}
 use Rattle.db_pages.specs.Image.{Imaged, image_over, with_lock_page}
 use Rattle.db_pages.specs.Laid.{next_place}
 use Rattle.db_pages.specs.Numbers.{number_of}
-use Rattle.db_pages.proofs.Images.{image_is}
+use Rattle.db_pages.proofs.Images.{image_few, image_is}
 use Rattle.db_pages.proofs.Joined.{text_of, text_of-append}
 use Rattle.db_pages.proofs.Rows.{bytes_of}
 use Rattle.db_pages.proofs.image.Image.finish.Goals as goal
@@ -28,7 +28,15 @@ returns c =
     ap text_of appended ∙ text_of-append trees pages
     ∙ ap (λ (p : Imaged). p.trees ++ text_of pages) c.self.view_is ∙ ap (λ (t : TreeBytes). parts.trees ++ t.bytes) c.list.view_is in
     let is-root : c.in_ok-root.root ≡ number_of list.root = c.in_ok-root.ensures ∙ ap (λ (t : TreeBytes). number_of t.root) c.list.view_is in
-    IfOk-weaker c.join_pages.result (λ text. text ≡ with_lock_page (first ++ text_of all)) (λ text. text ≡ image_over parts)
-    (λ text is. image_is parts list base c.in_ok-pages.pages c.in_ok-number_of.field-0 c.in_ok-root.root first (text_of all) text
-    c.next_place-base.ensures is-list is-pages c.in_ok-number_of.ensures is-root c.in_ok-first.ensures.value is-all is)
-    c.join_pages.ensures
+    let few : c.in_ok-number_of.field-0 < 2 ^ 32 = omega arith in
+    let Text : List ℕ → Type 0 = λ text. text ≡ with_lock_page (first ++ text_of all) in
+    record {
+      value = IfOk-weaker c.join_pages.result Text (λ text. text ≡ image_over parts)
+          (λ text is. image_is parts list base c.in_ok-pages.pages c.in_ok-number_of.field-0 c.in_ok-root.root first (text_of all) text
+          c.next_place-base.ensures is-list is-pages c.in_ok-number_of.ensures is-root c.in_ok-first.ensures.value is-all is)
+          c.join_pages.ensures;
+      few = IfOk-weaker c.join_pages.result Text (λ text. length text < 2 ^ 44)
+          (λ text is. image_few parts list base c.in_ok-pages.pages c.in_ok-number_of.field-0 first (text_of all) text c.next_place-base.ensures is-list is-pages c.in_ok-number_of.ensures few
+          c.in_ok-first.ensures.size is-all is)
+          c.join_pages.ensures;
+    }
