@@ -11,7 +11,7 @@ use Rattle.sqlite_record.specs.Record.{decode}
 use Rattle.sqlite_btree.specs.Part.{Part, all_pages}
 use Rattle.sqlite_btree.specs.Chain.{Entry}
 use Rattle.sqlite_btree.specs.Stored.{rowid_of}
-use Rattle.db_records.specs.Record.{record_bytes}
+use Rattle.db_records.specs.Record.{IsWritable, record_bytes}
 use Rattle.db_pages.specs.Grown.{TreeBytes, tree_of}
 use Rattle.db_pages.specs.Image.{Tabled, first_page, image, image_over, imaged, listed, trees_bytes, with_lock_page}
 use Rattle.db_pages.specs.Laid.{next_place}
@@ -19,7 +19,7 @@ use Rattle.db_pages.specs.Numbers.{number_of}
 use Rattle.db_pages.proofs.WholeTrees.{tree-whole}
 use Rattle.db_reading.specs.Entries.{row_entries}
 use Rattle.db_reading.specs.Pages.{Stand, file_pages, page_at}
-use Rattle.db_reading.specs.Tables.{AreUnder, HoldsTables, IsCounted, IsStorable, list_rows, numbered, rows_at}
+use Rattle.db_reading.specs.Tables.{AreUnder, HoldsTables, IsStorable, list_rows, numbered, rows_at}
 use Rattle.db_reading.proofs.Files.{file-longer, file-stands}
 use Rattle.db_reading.proofs.FirstPage.{first-reads, first-size}
 use Rattle.db_reading.proofs.Records.{length-records, records-some, rows-decoded}
@@ -78,10 +78,10 @@ list-storable table root small =
     record {
       some = omega arith;
       few = omega arith;
-      counted = All-cons IsCounted (Text (codes "table")) (Text table.name ∷ Text table.name ∷ Int (pos root) ∷ Text table.sql ∷ []) tt
-          (All-cons IsCounted (Text table.name) (Text table.name ∷ Int (pos root) ∷ Text table.sql ∷ []) tt
-          (All-cons IsCounted (Text table.name) (Int (pos root) ∷ Text table.sql ∷ []) tt
-          (All-cons IsCounted (Int (pos root)) (Text table.sql ∷ []) fits (All-cons IsCounted (Text table.sql) [] tt (All-nil IsCounted)))));
+      writable = All-cons IsWritable (Text (codes "table")) (Text table.name ∷ Text table.name ∷ Int (pos root) ∷ Text table.sql ∷ []) tt
+          (All-cons IsWritable (Text table.name) (Text table.name ∷ Int (pos root) ∷ Text table.sql ∷ []) tt
+          (All-cons IsWritable (Text table.name) (Int (pos root) ∷ Text table.sql ∷ []) tt
+          (All-cons IsWritable (Int (pos root)) (Text table.sql ∷ []) fits (All-cons IsWritable (Text table.sql) [] tt (All-nil IsWritable)))));
     }
 
 module _ (file : List ℕ) (short : length file < 2 ^ 50) where

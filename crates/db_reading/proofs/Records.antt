@@ -13,26 +13,11 @@ use Rattle.sqlite_btree.specs.Chain.{Entry}
 use Rattle.sqlite_btree.specs.Stored.{rowid_of}
 use Rattle.db_records.specs.Record.{IsWritable, header_size, record_bytes, type_bytes, value_bytes}
 use Rattle.db_records.specs.Varint.{varint}
-use Rattle.db_records.proofs.Records.{record-reads-back}
+use Rattle.db_records.proofs.Records.{record-reads-back, record-size}
 use Rattle.db_records.proofs.Varints.{varint-size}
 use Rattle.db_pages.proofs.Sizes.{varint-short}
 use Rattle.db_reading.specs.Entries.{row_entries, row_entry}
-use Rattle.db_reading.specs.Tables.{IsCounted, IsStorable, numbered}
-
--- a value of so many bytes
-value-writable : (value : Value) → IsCounted value → length (value_bytes value) < 2 ^ 54 → IsWritable value
-value-writable Null counted short = tt
-value-writable (Int n) counted short = counted
-value-writable (Real x) counted short = counted
-value-writable (Text t) counted short = short
-value-writable (Blob b) counted short = short
-
-row-writable : (row : Row) → All IsCounted row → length (flat_map value_bytes row) < 2 ^ 54 → All IsWritable row
-row-writable [] counted short = All-nil IsWritable
-row-writable (value ∷ row) counted short =
-    let longer : length (flat_map value_bytes (value ∷ row)) ≡ length (value_bytes value) + length (flat_map value_bytes row) = length-append (value_bytes value) (flat_map value_bytes row) in
-    All-cons IsWritable value row (value-writable value (All-head IsCounted value row counted) (omega (arith, longer, short)))
-    (row-writable row (All-tail IsCounted value row counted) (omega (arith, longer, short)))
+use Rattle.db_reading.specs.Tables.{IsStorable, numbered}
 
 types-most : (row : Row) → length (flat_map type_bytes row) ≤ 8 * length row
 types-most [] = omega arith
@@ -42,21 +27,12 @@ types-some : (row : Row) → 0 < length row → 0 < length (flat_map type_bytes 
 types-some [] some = absurd (let no : ⊥ = omega (arith, some) in no)
 types-some (value ∷ row) some = omega (arith, length-append (type_bytes value) (flat_map type_bytes row), varint-size (serial_of value))
 
-record-size : (row : Row) →
-    length (record_bytes row) ≡ length (varint (header_size (length (flat_map type_bytes row)))) + (length (flat_map type_bytes row) + length (flat_map value_bytes row))
-record-size row =
-    let types : List ℕ = flat_map type_bytes row in
-    let values : List ℕ = flat_map value_bytes row in
-    let head : List ℕ = varint (header_size (length types)) in
-    let parts : length (record_bytes row) ≡ length (head ++ types) + length values = length-append (head ++ types) values in
-    omega (arith, parts, length-append head types)
-
 pub record-some : (row : Row) → IsStorable row → 1 < length (record_bytes row)
 record-some row storable = omega (arith, record-size row, varint-size (header_size (length (flat_map type_bytes row))), types-some row storable.some)
 
 record-decoded : (row : Row) → IsStorable row → length (record_bytes row) < 2 ^ 54 → decode (record_bytes row) ≡ row
 record-decoded row storable short =
-    record-reads-back row (row-writable row storable.counted (omega (arith, short, record-size row))) (omega (arith, types-most row, storable.few))
+    record-reads-back row storable.writable (omega (arith, types-most row, storable.few)) short
 
 rowid-is : (rowid : ℕ) → rowid < 2 ^ 63 → rowid_of (flip_sign rowid) ≡ pos rowid
 rowid-is rowid small =

@@ -1,13 +1,12 @@
 -- The tables of a database, as a reader of the format finds them.
-use Rattle.std.specs.Prelude.{◌≡◌, ℕ, ◌+◌, ◌<◌, ◌≤◌, ℤ, pos, List, [], ◌∷◌, codes, length, map, All, FitsSigned, ⊤}
-use Rattle.std.specs.Int.{w64}
-use Rattle.sqlite_value.specs.declared.value.Value.{Value}
-use Rattle.sqlite_value.specs.declared.value.Value.TheVariants.{Null, Int, Real, Text, Blob}
+use Rattle.std.specs.Prelude.{◌≡◌, ℕ, ◌+◌, ◌<◌, ◌≤◌, ℤ, pos, List, [], ◌∷◌, codes, length, map, All, ⊤}
+use Rattle.sqlite_value.specs.declared.value.Value.TheVariants.{Int, Text}
 use Rattle.sqlite_value.specs.Order.{Row}
 use Rattle.sqlite_record.specs.Record.{decode}
 use Rattle.sqlite_format.specs.declared.kind.Tree.TheVariants.{Table}
 use Rattle.sqlite_btree.specs.Chain.{Entry}
 use Rattle.sqlite_btree.specs.Stored.{entries_at, rowid_of}
+use Rattle.db_records.specs.Record.{IsWritable}
 use Rattle.db_pages.specs.Image.{Tabled}
 use Rattle.db_reading.specs.Pages.{file_pages}
 
@@ -40,16 +39,8 @@ pub record HoldsTables (file : List ℕ) (tables : List Tabled) : Type 0 where
   pub listed : rows_at file 1 ≡ numbered 1 (list_rows tables roots)
   pub held : AreUnder file tables roots
 
--- a number that the format can say, and no float
-abbrev pub IsCounted : Value → Type 0
-IsCounted Null = ⊤
-IsCounted (Int n) = FitsSigned w64 n
-IsCounted (Real x) = ⊥
-IsCounted (Text t) = ⊤
-IsCounted (Blob b) = ⊤
-
 -- a row of one to 32,767 values, SQLite's most columns
 pub record IsStorable (row : Row) : Type 0 where
   pub some : 0 < length row
   pub few : length row ≤ 32767
-  pub counted : All IsCounted row
+  pub writable : All IsWritable row
