@@ -1,5 +1,5 @@
 #!/usr/bin/env python3
-"""Runs the program where the system fails it, as no proof can: faults, short reads and writes, threads that can't be made.
+"""Runs the program where the system fails it, as no proof can: faults, short reads and writes, long pauses, missing threads.
 
 CSVLOAD names the program. Each trial is a line of the shell, with the status and the text that it has to end with; the files
 that it reads are made here, and what is in them is worked out here too. Libraries of .ci/preload, which gcc makes, stand before
@@ -31,6 +31,9 @@ RANGES = "range_size=5000"
 
 # Ways to share the work.
 WAYS = ("threads=1", "threads=4", "threads=1 pipeline=true", "threads=4 pipeline=true")
+
+# Where a pipe pauses: behind the sample, where stages scan.
+PAUSE = 4_300_000
 
 # KiB of address space, from what the program can't begin with to what serves several threads.
 MEMORY = (3_000, 4_000, 5_000, 6_000, 8_000, 12_000, 24_000, 48_000, 96_000, 192_000)
@@ -155,6 +158,14 @@ def thread_trials() -> list[Trial]:
     return trials
 
 
+def wait_trials() -> list[Trial]:
+    """A pipe that pauses until no stage is left, where an hour is soon over: what comes later is scanned all the same."""
+    pause = "sleep 1; until test $(ls /proc/$(cat pid)/task | wc -l) = 1; do sleep 0.1; done"
+    feed = f"{{ head -c {PAUSE} whole.csv; {pause}; tail -c +{PAUSE + 1} whole.csv; }}"
+    load = f"exec env LD_PRELOAD=./waits.so csvload load - {RANGES} threads=4 pipeline=true"
+    return [Trial("a pause longer than stages wait", f"{feed} | sh -c 'echo $$ >pid; {load}'", 0, WHOLE)]
+
+
 def build(folder: pathlib.Path) -> bool:
     """Makes the libraries, where there is gcc."""
     if not shutil.which("gcc"):
@@ -231,7 +242,7 @@ def main() -> None:
         fill(folder)
         trials = output_trials() + input_trials()
         if build(folder):
-            trials += piece_trials() + fault_trials() + change_trials() + thread_trials()
+            trials += piece_trials() + fault_trials() + change_trials() + thread_trials() + wait_trials()
         verdicts = [is_right(trial, *run(["sh", "-c", trial.line], folder)) for trial in trials]
         verdicts += [check_socket(folder), check_little_memory(folder)]
     if not all(verdicts):

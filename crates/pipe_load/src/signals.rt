@@ -12,6 +12,13 @@ const YIELDS: u32 = 100;
 /// How many milliseconds a sleep takes at most. What one waits for ends the sleep, so this is no delay.
 const LONGEST_SLEEP: u64 = 1_000;
 
+/// How many sleeps in a row a stage makes in which nothing is told: an hour. A reading that brings nothing for so long goes
+/// on without stages.
+const PATIENCE: u32 = 3_600;
+
+/// After how many looks in a row that found nothing a stage ends.
+pub const MOST_LOOKS: u32 = YIELDS + PATIENCE;
+
 /// How many milliseconds the caller waits for a first stage to be at work. A thread that was made begins long before.
 const BEGINNING: u64 = 100;
 
@@ -82,14 +89,18 @@ impl Signals {
     }
 
     /// A stage waits, after so many looks in a row that found nothing, unless it was told more than it had heard before the
-    /// last one.
-    pub fn wait_for_item<R: Wait>(&self, rt: &R, heard: u64, looks: u32) {
+    /// last one. How many looks that makes: a sleep in which it was told begins them anew, without the yields.
+    pub fn wait_for_item<R: Wait>(&self, rt: &R, heard: u64, looks: u32) -> u32 {
         if looks < YIELDS {
             thread::yield_now();
-            return;
+            return looks + 1;
         }
         self.came
             .sleep(rt, heard, Duration::from_millis(LONGEST_SLEEP));
+        if self.came.notifications() != heard {
+            return YIELDS;
+        }
+        looks.saturating_add(1)
     }
 
     /// The caller waits for room, unless it was told more than it had heard before it looked. Whether another look is of
