@@ -1,6 +1,6 @@
 -- Facts of each element of a list.
 use Rattle.std.proofs.Common.{ℕ, zero, suc, ◌<◌, List, [], ◌∷◌, ◌++◌, length, take, drop, arith, All}
-use Rattle.std.proofs.lemmas.List.Elements.{All-cons, All-nil}
+use Rattle.std.proofs.lemmas.List.Elements.{All-cons, All-head, All-nil, All-tail}
 use Rattle.sqlite_btree.specs.Cut.{Each}
 
 module _ {X : Type 0} (P : X → Type 0) where
@@ -25,3 +25,11 @@ module _ {X : Type 0} (P : X → Type 0) where
   pub each-all : (xs : List X) → Each P xs → All P xs
   each-all [] all = All-nil P
   each-all (x ∷ xs) all = All-cons P x xs all.0 (each-all xs all.1)
+
+  pub all-front : (xs ys : List X) → All P (xs ++ ys) → All P xs
+  all-front [] ys all = All-nil P
+  all-front (x ∷ xs) ys all = All-cons P x xs (All-head P x (xs ++ ys) all) (all-front xs ys (All-tail P x (xs ++ ys) all))
+
+  pub all-last : (xs : List X) (y : X) → All P (xs ++ y ∷ []) → P y
+  all-last [] y all = All-head P y [] all
+  all-last (x ∷ xs) y all = all-last xs y (All-tail P x (xs ++ y ∷ []) all)

@@ -66,3 +66,31 @@ grouped-some (suc fuel) children some =
       | inl few ↦ omega (arith, ap length (grouped-last fuel children few))
       | inr many ↦ omega (arith, ap length (grouped-more fuel children many))
     ]
+
+-- a fact of some element
+abbrev pub Some-of : {X : Type 0} → (X → Type 0) → List X → Type 0
+Some-of P [] = ⊥
+Some-of P (x ∷ xs) = P x ⊎ Some-of P xs
+
+some-split : (Q : Child → Type 0) (n : ℕ) (children : List Child) → Some-of Q children → Some-of Q (take n children) ⊎ Some-of Q (drop n children)
+some-split Q zero children some = inr some
+some-split Q (suc n) [] some = absurd some
+some-split Q (suc n) (child ∷ children) some =
+    elim some [
+      | inl here ↦ inl (inl here)
+      | inr there ↦ elim (some-split Q n children there) [ inl front ↦ inl (inr front) | inr behind ↦ inr behind ]
+    ]
+
+pub some-groups : (Q : Child → Type 0) (fuel : ℕ) (children : List Child) → length children ≤ fuel → Some-of Q children → Some-of (Some-of Q) (grouped fuel children)
+some-groups Q zero [] enough some = absurd some
+some-groups Q zero (child ∷ children) enough some = absurd (let no : ⊥ = omega (arith, enough) in no)
+some-groups Q (suc fuel) children enough some =
+    elim (cases_lt (length children) 256) [
+      | inl few ↦ subst (Some-of (Some-of Q)) (sym (grouped-last fuel children few)) (inl some)
+      | inr many ↦
+          subst (Some-of (Some-of Q)) (sym (grouped-more fuel children many))
+          (elim (some-split Q 128 children some) [
+            | inl front ↦ inl front
+            | inr behind ↦ inr (some-groups Q fuel (drop 128 children) (omega (arith, many, enough, length-drop 128 children)) behind)
+          ])
+    ]

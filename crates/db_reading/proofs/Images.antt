@@ -23,8 +23,10 @@ use Rattle.db_reading.specs.Tables.{AreUnder, HoldsTables, IsStorable, list_rows
 use Rattle.db_reading.proofs.Files.{file-longer, file-stands}
 use Rattle.db_reading.proofs.FirstPage.{first-reads, first-size}
 use Rattle.db_reading.proofs.Records.{length-records, records-some, rows-decoded}
+use Rattle.db_reading.proofs.Rising.{by_rank}
+use Rattle.db_reading.proofs.Roles.{Role}
 use Rattle.db_reading.proofs.Standing.{stand-back, stand-front, stand-next, stand-one}
-use Rattle.db_reading.proofs.Trees.{Found, TreeReads, reading_order, rows-few, rows-short, tree-found, tree-reads}
+use Rattle.db_reading.proofs.Trees.{Found, TreeReads, rows-few, rows-short, tree-found, tree-reads, tree-role, whole-lies, whole_layout}
 
 -- a page that a reader finds lies in the file
 page-within : (file : List ℕ) (number : ℕ) → length (all_pages (file_pages file) number) ≡ 4096 → 4096 * number ≤ length file
@@ -142,14 +144,17 @@ module _ (file : List ℕ) (short : length file < 2 ^ 50) where
       let are : All IsStorable (listed 1 tables) = subst (All IsStorable) (sym same) held.storable in
       let past : 0 < base = omega arith in
       let less : length (tree_of base (map record_bytes (listed 1 tables))).bytes < 2 ^ 50 = omega (arith, ap length is-list, longer, small) in
-      let reads : TreeReads (reading_order pages) (all_pages pages) (tree_of base (map record_bytes (listed 1 tables))).root (row_entries 1 (map record_bytes (listed 1 tables))) =
-      tree-reads base (map record_bytes (listed 1 tables)) past (records-some (listed 1 tables) are) (reading_order pages) (all_pages pages) less
-      (subst (Stand (all_pages pages) base) is-list last) in
+      let records : List (List ℕ) = map record_bytes (listed 1 tables) in
+      let bytes : List ℕ = (tree_of base records).bytes in
+      let role : Role = tree-role base records past (records-some (listed 1 tables) are) in
+      let reads : TreeReads by_rank (whole_layout (all_pages pages) role) role base bytes (tree_of base records).root (row_entries 1 records) =
+      tree-reads base records past (records-some (listed 1 tables) are) by_rank (whole_layout (all_pages pages) role) less
+      (whole-lies (all_pages pages) role base bytes (subst (Stand (all_pages pages) base) is-list last)) in
       record {
         roots = roots;
         listed = ap (map (λ (entry : Entry). (rowid_of entry.key, decode entry.payload)))
-            (first-reads pages count place (row_entries 1 (map record_bytes (listed 1 tables))) here
-            (subst (λ p. TreeReads (reading_order pages) (all_pages pages) p (row_entries 1 (map record_bytes (listed 1 tables)))) (sym is-place) reads))
+            (first-reads pages role base bytes count place (row_entries 1 records) here
+            (subst (λ p. TreeReads by_rank (whole_layout (all_pages pages) role) role base bytes p (row_entries 1 records)) (sym is-place) reads))
             ∙ decoded base (listed 1 tables) past are less
             ∙ ap (numbered 1) same;
         held = held.held;

@@ -35,7 +35,7 @@ pub divider-child : (number last : ℕ) → cell_child (four_bytes number ++ var
 unfolding cell_child
 divider-child number last = four-read number
 
-divider-key : (number last : ℕ) → last < 2 ^ 56 → body_key Table false (cell_body inner_kind 4096 (four_bytes number ++ varint last)) ≡ flip_sign last
+pub divider-key : (number last : ℕ) → last < 2 ^ 56 → body_key Table false (cell_body inner_kind 4096 (four_bytes number ++ varint last)) ≡ flip_sign last
 unfolding cell_body body_key
 divider-key number last small =
     let size : body_size Table false 4096 (varint last) ≡ length (varint last) = divider-size number last small in

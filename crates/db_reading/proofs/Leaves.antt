@@ -1,14 +1,14 @@
 -- Leaves of rows, as they are read.
-use Rattle.std.proofs.Common.{◌≡◌, ℕ, ◌+◌, ◌-◌, ◌*◌, ◌%◌, ◌^◌, ◌<◌, ◌≤◌, ◌==◌, Bool, true, false, if◌then◌else◌, List, [], ◌∷◌, ◌++◌, length, drop, map, flat_map, refl, sym, ◌∙◌, ap, subst, arith, inl, inr, append_assoc, append-nil, length-append, length-drop, nat_le, All}
+use Rattle.std.proofs.Common.{◌≡◌, ◌≢◌, ◌⊎◌, ℕ, zero, suc, ◌+◌, ◌-◌, ◌*◌, ◌/◌, ◌%◌, ◌^◌, ◌<◌, ◌≤◌, ◌==◌, Bool, true, false, if◌then◌else◌, List, [], ◌∷◌, ◌++◌, length, drop, map, flat_map, refl, sym, ◌∙◌, ap, subst, arith, inl, inr, append_assoc, append-nil, length-append, length-drop, nat_le, All}
 use Rattle.std.proofs.lemmas.Bool.{cases_lt, cond-true, cond-false, le-leb, lt-leb, false≢true}
 use Rattle.std.proofs.lemmas.List.{flat_map_more, map-append}
 use Rattle.std.proofs.lemmas.List.Elements.{All-head, All-nil, All-push, All-tail}
 use Rattle.sqlite_format.specs.declared.kind.Tree.TheVariants.{Table}
-use Rattle.sqlite_format.specs.Cell.{IsCell, local_len}
+use Rattle.sqlite_format.specs.Cell.{IsCell, cell_body, local_len}
 use Rattle.sqlite_format.specs.Page.{IsPage, page_cells}
 use Rattle.sqlite_btree.specs.Part.{Part}
-use Rattle.sqlite_btree.specs.Cut.{Each}
-use Rattle.sqlite_btree.specs.Chain.{Entry}
+use Rattle.sqlite_btree.specs.Cut.{Each, IsIn}
+use Rattle.sqlite_btree.specs.Chain.{Entry, HasChain, IsLinkOfRow, Layout}
 use Rattle.db_records.specs.Cell.{cell_bytes}
 use Rattle.db_records.specs.Laws.{HoldsCells, leaf_kind}
 use Rattle.db_records.specs.Page.{joined, leaf_page}
@@ -20,88 +20,201 @@ use Rattle.db_pages.proofs.Chains.{long_cell_size}
 use Rattle.db_pages.proofs.Cuts.{joined_more}
 use Rattle.db_pages.proofs.Sizes.{chain-whole, local-most, local-within, long-size, short-size}
 use Rattle.db_reading.specs.Entries.{row_entries, row_entry}
-use Rattle.db_reading.specs.Pages.{Stand}
-use Rattle.db_reading.proofs.Each.{each-more}
-use Rattle.db_reading.proofs.LeafCells.{SaysRow, leaf_entry, long-says, short-says}
-use Rattle.db_reading.proofs.Overflow.{chain-holds, local-some}
-use Rattle.db_reading.proofs.Standing.{stand-front, stand-next, stand-page}
-
--- what the leaf on a page says
-abbrev pub page_entries : Part → ℕ → List Entry
-page_entries part page = map (leaf_entry part) (page_cells leaf_kind (part page) 0)
+use Rattle.db_reading.specs.Pages.{EachPage, page_at}
+use Rattle.db_reading.proofs.Each.{all-front, all-last, each-more}
+use Rattle.db_reading.proofs.LeafCells.{SaysRow, leaf_entry, long-chained, long-linked, long-says, short-chained, short-says}
+use Rattle.db_reading.proofs.Overflow.{IsLink, chain-holds, local-some, long-some}
+use Rattle.db_reading.proofs.Roles.{IsPlaced, Lies, Role, given, given-before, given-behind, given-in}
+use Rattle.db_reading.proofs.Standing.{each-front, each-next, each-page, number-least, number-up}
 
 -- a leaf that isn't empty, and not on the first page
-pub record IsLeaf (part : Part) (child : Child) : Type 0 where
-  pub sound : IsPage leaf_kind (part (number_of child.place)) 0
-  pub size : length (part (number_of child.place)) ≡ 4096
-  pub some : 0 < length (page_cells leaf_kind (part (number_of child.place)) 0)
+pub record IsLeaf (nodes : Part) (child : Child) : Type 0 where
+  pub sound : IsPage leaf_kind (nodes (number_of child.place)) 0
+  pub size : length (nodes (number_of child.place)) ≡ 4096
+  pub some : 0 < length (page_cells leaf_kind (nodes (number_of child.place)) 0)
   pub behind : 0 < child.place
   pub small : child.last < 2 ^ 56
 
--- the leaves and the cells of the leaf under way say these rows
-pub record Says (part : Part) (laid : Laid) (entries : List Entry) : Type 0 where
-  pub whole : All (IsCell leaf_kind 4096) laid.cells
-  pub leaves : Each (IsLeaf part) laid.leaves
-  pub read : flat_map (λ (child : Child). page_entries part (number_of child.place)) laid.leaves ++ map (leaf_entry part) laid.cells ≡ entries
+-- the cells of a leaf
+abbrev pub leaf_cells : Part → Child → List (List ℕ)
+leaf_cells nodes child = page_cells leaf_kind (nodes (number_of child.place)) 0
 
--- so many rows are laid out, and say so wherever their pages stand
+-- the cells of leaves, and those behind them
+abbrev pub all_cells : Part → List Child → List (List ℕ) → List (List ℕ)
+all_cells nodes leaves cells = flat_map (leaf_cells nodes) leaves ++ cells
+
+-- leaves in order: each has the rows behind those of the leaves before it, up to its last
+abbrev pub Spans : Layout → ℕ → List Child → ℕ → Type 0
+Spans layout low [] high = low ≡ high
+Spans layout low (child ∷ leaves) high =
+    (rows : List (List ℕ)) × (map (leaf_entry layout.spill) (leaf_cells layout.nodes child) ≡ row_entries (low + 1) rows) × (child.last ≡ low + length rows)
+    × Spans layout child.last leaves high
+
+-- the leaves in order, and behind them the cells of the leaf under way
+pub record InOrder (layout : Layout) (laid : Laid) : Type 0 where
+  pub high : ℕ
+  pub leaves : Spans layout 0 laid.leaves high
+  pub rows : List (List ℕ)
+  pub cells : map (leaf_entry layout.spill) laid.cells ≡ row_entries (high + 1) rows
+  pub last : laid.last ≡ high + length rows
+
+-- a page holds the rest of the row of one of these cells
+pub record IsLinked (layout : Layout) (cells : List (List ℕ)) (number : ℕ) : Type 0 where
+  pub cell : List ℕ
+  pub among : IsIn cell cells
+  pub link : IsLinkOfRow Table 4096 layout.spill (cell_body leaf_kind 4096 cell) number
+
+-- a cell has the pages in which its row goes on
+abbrev pub IsChainedCell : Layout → List ℕ → Type 0
+IsChainedCell layout cell = HasChain Table 4096 layout (cell_body leaf_kind 4096 cell)
+
+-- records that SQLite allows
+abbrev pub AreAllowed : List Entry → Type 0
+AreAllowed entries = All (λ (e : Entry). length e.payload < 2 ^ 31) entries
+
+-- the leaves and the cells of the leaf under way say these rows
+pub record Says (layout : Layout) (role : Role) (base : ℕ) (laid : Laid) (entries : List Entry) : Type 0 where
+  pub whole : All (IsCell leaf_kind 4096) laid.cells
+  pub leaves : Each (IsLeaf layout.nodes) laid.leaves
+  pub read : map (leaf_entry layout.spill) (all_cells layout.nodes laid.leaves laid.cells) ≡ entries
+  pub order : InOrder layout laid
+  pub links : (k : ℕ) → 4096 * (k + 1) ≤ length laid.pages → role (number_of (base + k)) ≢ [] → IsLinked layout (all_cells layout.nodes laid.leaves laid.cells) (number_of (base + k))
+  pub chained : AreAllowed entries → Each (IsChainedCell layout) (all_cells layout.nodes laid.leaves laid.cells)
+
+-- one of the leaves stands at a place
+abbrev pub IsAmong : ℕ → List Child → Type 0
+IsAmong place [] = ⊥
+IsAmong place (child ∷ leaves) = (child.place ≡ place) ⊎ IsAmong place leaves
+
+among-more : (place : ℕ) (leaves : List Child) (child : Child) → IsAmong place leaves → IsAmong place (leaves ++ child ∷ [])
+among-more place [] child is = absurd is
+among-more place (first ∷ leaves) child is = elim is [ inl here ↦ inl here | inr there ↦ inr (among-more place leaves child there) ]
+
+among-last : (place : ℕ) (leaves : List Child) (child : Child) → child.place ≡ place → IsAmong place (leaves ++ child ∷ [])
+among-last place [] child is = inl is
+among-last place (first ∷ leaves) child is = inr (among-last place leaves child is)
+
+-- so many rows are laid out, and say so wherever their pages lie
 pub record Holds (base : ℕ) (laid : Laid) (count : ℕ) (entries : List Entry) : Type 0 where
   pub whole : length laid.pages % 4096 ≡ 0
   pub fits : 8 + 2 * length laid.cells + length (joined laid.cells) ≤ 4096
   pub few : count ≤ length laid.pages + length laid.cells
-  pub last : laid.last ≤ count
+  pub last : laid.last ≡ count
   pub short : All (λ (e : Entry). length e.payload ≤ length laid.pages + 4061) entries
-  pub says : (part : Part) → Stand part base laid.pages → length laid.pages < 2 ^ 50 → Says part laid entries
+  pub role : Role
+  pub fresh : (number : ℕ) → number_of (next_place base laid.pages) ≤ number → role number ≡ []
+  pub leafy : (k : ℕ) → 4096 * (k + 1) ≤ length laid.pages → role (number_of (base + k)) ≡ [] → IsAmong (base + k) laid.leaves
+  pub says : (layout : Layout) → Lies layout role base laid.pages → length laid.pages < 2 ^ 50 → Says layout role base laid entries
 
 pub nothing-holds : (base : ℕ) → Holds base nothing_laid 0 []
 nothing-holds base = record {
   whole = refl;
   fits = omega arith;
   few = omega arith;
-  last = omega arith;
+  last = refl;
   short = All-nil (λ (e : Entry). length e.payload ≤ 0 + 4061);
-  says = λ part stand short. record { whole = All-nil (IsCell leaf_kind 4096); leaves = tt; read = refl };
+  role = λ number. [];
+  fresh = λ number past. refl;
+  leafy = λ k within is. absurd (let no : ⊥ = omega (arith, within) in no);
+  says = λ layout lies short. record {
+    whole = All-nil (IsCell leaf_kind 4096);
+    leaves = tt;
+    read = refl;
+    order = record { high = 0; leaves = refl; rows = []; cells = refl; last = refl };
+    links = λ k within is. absurd (let no : ⊥ = omega (arith, within) in no);
+    chained = λ allowed. tt;
+  };
 }
 
+spans-more : (layout : Layout) (low : ℕ) (leaves : List Child) (high : ℕ) (child : Child) (rows : List (List ℕ)) → Spans layout low leaves high →
+    map (leaf_entry layout.spill) (leaf_cells layout.nodes child) ≡ row_entries (high + 1) rows → child.last ≡ high + length rows →
+    Spans layout low (leaves ++ child ∷ []) child.last
+spans-more layout low [] high child rows spans says last =
+    (rows, says ∙ ap (λ n. row_entries (n + 1) rows) (sym spans), last ∙ ap (λ n. n + length rows) (sym spans), refl)
+spans-more layout low (first ∷ leaves) high child rows spans says last =
+    (spans.0, spans.1, spans.2, spans-more layout first.last leaves high child rows spans.3 says last)
+
+entries-more : (rowid : ℕ) (rows : List (List ℕ)) (row : List ℕ) → row_entries rowid (rows ++ row ∷ []) ≡ row_entries rowid rows ++ row_entry (rowid + length rows) row ∷ []
+entries-more rowid [] row = let e : rowid ≡ rowid + 0 = omega arith in ap (λ n. row_entry n row ∷ []) e
+entries-more rowid (first ∷ rows) row =
+    let e : rowid + 1 + length rows ≡ rowid + suc (length rows) = omega arith in
+    ap (λ es. row_entry rowid first ∷ es) (entries-more (rowid + 1) rows row) ∙ ap (λ n. row_entry rowid first ∷ row_entries (rowid + 1) rows ++ row_entry n row ∷ []) e
+
+in-more : {X : Type 0} (x : X) (xs : List X) (y : X) → IsIn x xs → IsIn x (xs ++ y ∷ [])
+in-more x [] y is = absurd is
+in-more x (z ∷ xs) y is = elim is [ inl here ↦ inl here | inr there ↦ inr (in-more x xs y there) ]
+
+in-last : {X : Type 0} (xs : List X) (y : X) → IsIn y (xs ++ y ∷ [])
+in-last [] y = inl refl
+in-last (z ∷ xs) y = inr (in-last xs y)
+
 module _ (base : ℕ) (past : 0 < base) where
-  finish-says : (part : Part) (laid : Laid) (count : ℕ) (entries : List Entry) → Holds base laid count entries → 0 < length laid.cells →
-      Stand part base (laid.pages ++ leaf_page laid.cells) → length (laid.pages ++ leaf_page laid.cells) < 2 ^ 50 → Says part (finished base laid) entries
-  finish-says part laid count entries h some stand short =
+  finish-says : (layout : Layout) (laid : Laid) (count : ℕ) (entries : List Entry) (h : Holds base laid count entries) → 0 < length laid.cells →
+      Lies layout h.role base (laid.pages ++ leaf_page laid.cells) → length (laid.pages ++ leaf_page laid.cells) < 2 ^ 50 → Says layout h.role base (finished base laid) entries
+  finish-says layout laid count entries h some lies short =
       let page : List ℕ = leaf_page laid.cells in
       let place : ℕ = next_place base laid.pages in
       let leaf : Child = record { place = place; last = laid.last } in
+      let Placed : ℕ → List ℕ → Type 0 = λ number p. IsPlaced layout (h.role number) number p in
       let size : length page ≡ 4096 = length-leaf_page laid.cells h.fits in
       let longer : length (laid.pages ++ page) ≡ length laid.pages + length page = length-append laid.pages page in
-      let old : Says part laid entries = h.says part (stand-front part base laid.pages page stand) (omega (arith, longer, short)) in
-      let here : part (number_of place) ≡ page = stand-page part place page size (stand-next part base laid.pages page h.whole stand) in
+      let old : Says layout h.role base laid entries = h.says layout (each-front Placed base laid.pages page lies) (omega (arith, longer, short)) in
+      let node : h.role (number_of place) ≡ [] = h.fresh (number_of place) (omega arith) in
+      let here : layout.nodes (number_of place) ≡ page = (each-page Placed place page size (each-next Placed base laid.pages page h.whole lies)).node node in
       let holds : HoldsCells leaf_kind page laid.cells = leaf-holds laid.cells old.whole h.fits in
-      let found : page_cells leaf_kind (part (number_of place)) 0 ≡ laid.cells = ap (λ p. page_cells leaf_kind p 0) here ∙ holds.found in
-      let says-of : Child → List Entry = λ (child : Child). page_entries part (number_of child.place) in
+      let found : leaf_cells layout.nodes leaf ≡ laid.cells = ap (λ p. page_cells leaf_kind p 0) here ∙ holds.found in
+      let same : all_cells layout.nodes (laid.leaves ++ leaf ∷ []) [] ≡ all_cells layout.nodes laid.leaves laid.cells =
+      append-nil (flat_map (leaf_cells layout.nodes) (laid.leaves ++ leaf ∷ [])) ∙ sym (flat_map_more (leaf_cells layout.nodes) [] laid.leaves leaf)
+      ∙ ap (λ cells. flat_map (leaf_cells layout.nodes) laid.leaves ++ cells) found in
       record {
         whole = All-nil (IsCell leaf_kind 4096);
-        leaves = each-more (IsLeaf part) laid.leaves leaf old.leaves (record {
+        leaves = each-more (IsLeaf layout.nodes) laid.leaves leaf old.leaves (record {
           sound = subst (λ p. IsPage leaf_kind p 0) (sym here) holds.sound;
           size = ap length here ∙ size;
           some = omega (arith, some, ap length found);
           behind = omega (arith, past);
           small = omega (arith, h.last, h.few, h.fits, longer, short);
         });
-        read = append-nil (flat_map says-of (laid.leaves ++ leaf ∷ [])) ∙ sym (flat_map_more says-of [] laid.leaves leaf)
-            ∙ ap (λ cells. flat_map says-of laid.leaves ++ map (leaf_entry part) cells) found ∙ old.read;
+        read = ap (map (leaf_entry layout.spill)) same ∙ old.read;
+        order = record {
+          high = laid.last;
+          leaves = spans-more layout 0 laid.leaves old.order.high leaf old.order.rows old.order.leaves (ap (map (leaf_entry layout.spill)) found ∙ old.order.cells) old.order.last;
+          rows = [];
+          cells = refl;
+          last = omega arith;
+        };
+        links = λ k within is.
+            elim (cases_lt k (length laid.pages / 4096)) [
+              | inl before ↦ subst (λ cells. IsLinked layout cells (number_of (base + k))) (sym same) (old.links k (omega (arith, before)) is)
+              | inr last ↦
+                  let e : place ≡ base + k = omega (arith, within, last, longer, size, h.whole) in
+                  absurd (is (ap (λ p. h.role (number_of p)) (sym e) ∙ node))
+            ];
+        chained = λ allowed. subst (Each (IsChainedCell layout)) (sym same) (old.chained allowed);
       }
 
   finish-holds : (laid : Laid) (count : ℕ) (entries : List Entry) → Holds base laid count entries → 0 < length laid.cells → Holds base (finished base laid) count entries
   finish-holds laid count entries h some =
       let page : List ℕ = leaf_page laid.cells in
+      let place : ℕ = next_place base laid.pages in
+      let leaf : Child = record { place = place; last = laid.last } in
       let size : length page ≡ 4096 = length-leaf_page laid.cells h.fits in
       let longer : length (laid.pages ++ page) ≡ length laid.pages + length page = length-append laid.pages page in
+      let up : number_of place < number_of (next_place base (laid.pages ++ page)) = number-up place (next_place base (laid.pages ++ page)) (omega (arith, longer, size)) in
       record {
         whole = omega (arith, h.whole, longer, size);
         fits = omega arith;
         few = omega (arith, h.few, h.fits, longer, size);
         last = h.last;
         short = λ k d lt. omega (arith, h.short k d lt, longer);
-        says = λ part stand short. finish-says part laid count entries h some stand short;
+        role = h.role;
+        fresh = λ number behind. h.fresh number (omega (arith, behind, up));
+        leafy = λ k within is.
+            elim (cases_lt k (length laid.pages / 4096)) [
+              | inl before ↦ among-more (base + k) laid.leaves leaf (h.leafy k (omega (arith, before)) is)
+              | inr last ↦ among-last (base + k) laid.leaves leaf (omega (arith, within, last, longer, size, h.whole))
+            ];
+        says = λ layout lies short. finish-says layout laid count entries h some lies short;
       }
 
   -- a choice between two layouts
@@ -151,17 +264,46 @@ module _ (base : ℕ) (past : 0 < base) where
       8 + 2 * length (cells ++ cell ∷ []) + length (joined (cells ++ cell ∷ [])) ≤ 4096
   more-fits cells cell size is h = omega (arith, is, h, length-append cells (cell ∷ []), ap length (joined_more cells cell), length-append (joined cells) cell)
 
-  -- a row more, by its cell
-  cell-says : (part : Part) (pages : List ℕ) (laid : Laid) (rowid : ℕ) (row cell : List ℕ) (entries : List Entry) → Says part laid entries → SaysRow part rowid row cell →
-      Says part (record { pages = pages; leaves = laid.leaves; cells = laid.cells ++ cell ∷ []; last = rowid }) (entries ++ row_entry rowid row ∷ [])
-  cell-says part pages laid rowid row cell entries old new =
-      let before : List Entry = flat_map (λ (child : Child). page_entries part (number_of child.place)) laid.leaves in
-      let cells : List Entry = map (leaf_entry part) laid.cells in
+  -- a row more, by its cell: its pages are those before it, or hold the rest of it
+  row-says : (layout : Layout) (role role′ : Role) (to : Laid) (pages : List ℕ) (rowid : ℕ) (row cell : List ℕ) (entries : List Entry) → rowid ≡ to.last + 1 →
+      Says layout role base to entries → SaysRow layout.spill rowid row cell → (length row < 2 ^ 31 → HasChain Table 4096 layout cell) →
+      ((k : ℕ) → 4096 * (k + 1) ≤ length pages → role′ (number_of (base + k)) ≢ [] →
+      (4096 * (k + 1) ≤ length to.pages × (role (number_of (base + k)) ≢ [])) ⊎ IsLinkOfRow Table 4096 layout.spill cell (number_of (base + k))) →
+      Says layout role′ base (record { pages = pages; leaves = to.leaves; cells = to.cells ++ cell ∷ []; last = rowid }) (entries ++ row_entry rowid row ∷ [])
+  row-says layout role role′ to pages rowid row cell entries next old new has links =
+      let before : List (List ℕ) = flat_map (leaf_cells layout.nodes) to.leaves in
+      let say : List ℕ → Entry = leaf_entry layout.spill in
+      let grown : all_cells layout.nodes to.leaves (to.cells ++ cell ∷ []) ≡ all_cells layout.nodes to.leaves to.cells ++ cell ∷ [] = sym (append_assoc before to.cells (cell ∷ [])) in
+      let count : to.last + 1 ≡ old.order.high + 1 + length old.order.rows = omega (arith, old.order.last) in
       record {
-        whole = All-push (IsCell leaf_kind 4096) laid.cells cell old.whole new.whole;
+        whole = All-push (IsCell leaf_kind 4096) to.cells cell old.whole new.whole;
         leaves = old.leaves;
-        read = ap (λ xs. before ++ xs) (map-append (leaf_entry part) laid.cells (cell ∷ [])) ∙ sym (append_assoc before cells (leaf_entry part cell ∷ []))
-            ∙ ap (λ xs. xs ++ leaf_entry part cell ∷ []) old.read ∙ ap (λ e. entries ++ e ∷ []) new.entry;
+        read = ap (map say) grown ∙ map-append say (all_cells layout.nodes to.leaves to.cells) (cell ∷ []) ∙ ap (λ xs. xs ++ say cell ∷ []) old.read ∙ ap (λ e. entries ++ e ∷ []) new.entry;
+        order = record {
+          high = old.order.high;
+          leaves = old.order.leaves;
+          rows = old.order.rows ++ row ∷ [];
+          cells = map-append say to.cells (cell ∷ []) ∙ ap (λ xs. xs ++ say cell ∷ []) old.order.cells ∙ ap (λ e. row_entries (old.order.high + 1) old.order.rows ++ e ∷ []) new.entry
+              ∙ ap (λ n. row_entries (old.order.high + 1) old.order.rows ++ row_entry n row ∷ []) (next ∙ count) ∙ sym (entries-more (old.order.high + 1) old.order.rows row);
+          last = omega (arith, next, old.order.last, length-append old.order.rows (row ∷ []));
+        };
+        links = λ k within is.
+            subst (λ cells. IsLinked layout cells (number_of (base + k))) (sym grown)
+            (elim (links k within is) [
+              | inl front ↦
+                  let l : IsLinked layout (all_cells layout.nodes to.leaves to.cells) (number_of (base + k)) = old.links k front.0 front.1 in
+                  record { cell = l.cell; among = in-more l.cell (all_cells layout.nodes to.leaves to.cells) cell l.among; link = l.link }
+              | inr here ↦ record {
+                cell = cell;
+                among = in-last (all_cells layout.nodes to.leaves to.cells) cell;
+                link = subst (λ body. IsLinkOfRow Table 4096 layout.spill body (number_of (base + k))) (sym new.body) here;
+              }
+            ]);
+        chained = λ allowed.
+            subst (Each (IsChainedCell layout)) (sym grown)
+            (each-more (IsChainedCell layout) (all_cells layout.nodes to.leaves to.cells) cell
+            (old.chained (all-front (λ (e : Entry). length e.payload < 2 ^ 31) entries (row_entry rowid row ∷ []) allowed))
+            (subst (HasChain Table 4096 layout) (sym new.body) (has (all-last (λ (e : Entry). length e.payload < 2 ^ 31) entries (row_entry rowid row) allowed))));
       }
 
   short-holds : (laid : Laid) (count rowid : ℕ) (row : List ℕ) (entries : List Entry) → rowid ≡ count + 1 → 1 < length row → length row ≤ 4061 → Holds base laid count entries →
@@ -174,11 +316,15 @@ module _ (base : ℕ) (past : 0 < base) where
         whole = r.holds.whole;
         fits = more-fits to.cells cell (length cell) refl r.room;
         few = omega (arith, r.holds.few, length-append to.cells (cell ∷ []));
-        last = omega (arith, next);
+        last = next;
         short = All-push (λ (e : Entry). length e.payload ≤ length to.pages + 4061) entries (row_entry rowid row) r.holds.short (omega (arith, few));
-        says = λ part stand short.
-            cell-says part to.pages to rowid row cell entries (r.holds.says part stand short)
-            (short-says part rowid row (omega (arith, next, r.holds.few, r.holds.fits, short)) few some);
+        role = r.holds.role;
+        fresh = r.holds.fresh;
+        leafy = r.holds.leafy;
+        says = λ layout lies short.
+            let small : rowid < 2 ^ 56 = omega (arith, next, r.holds.few, r.holds.fits, short) in
+            row-says layout r.holds.role r.holds.role to to.pages rowid row cell entries (omega (arith, next, r.holds.last)) (r.holds.says layout lies short)
+            (short-says layout.spill rowid row small few some) (λ allowed. short-chained layout rowid row small few) (λ k within is. inl (within, is));
       }
 
   long-holds : (laid : Laid) (count rowid : ℕ) (row : List ℕ) (entries : List Entry) → rowid ≡ count + 1 → 4061 < length row → Holds base laid count entries →
@@ -197,19 +343,57 @@ module _ (base : ℕ) (past : 0 < base) where
       let held : length rest ≤ length pages = chain-holds (length row) place rest (omega (arith, left, some, within)) in
       let longer : length (to.pages ++ pages) ≡ length to.pages + length pages = length-append to.pages pages in
       let r : Room to count size entries = room-holds laid count size entries (long-size 0 rowid row) h in
+      let whole : length pages % 4096 ≡ 0 = chain-whole (length row) place rest in
+      let behind : ℕ = next_place base (to.pages ++ pages) in
+      let role : Role = given (number_of place) (number_of behind) cell r.holds.role in
+      let up : number_of place ≤ number_of behind = elim (cases_lt place behind) [
+        | inl less ↦ omega (arith, number-up place behind less)
+        | inr most ↦ (let e : place ≡ behind = omega (arith, most, longer) in omega (arith, ap number_of e))
+      ] in
+      let before : (k : ℕ) → 4096 * (k + 1) ≤ length to.pages → role (number_of (base + k)) ≡ r.holds.role (number_of (base + k)) = λ k front.
+      given-before (number_of place) (number_of behind) cell r.holds.role (number_of (base + k)) (number-up (base + k) place (omega (arith, front))) in
+      let inside : (k : ℕ) → 4096 * (k + 1) ≤ length pages → role (number_of (place + k)) ≡ cell = λ k there.
+      given-in (number_of place) (number_of behind) cell r.holds.role (number_of (place + k)) (number-least place k) (number-up (place + k) behind (omega (arith, there, longer, r.holds.whole))) in
+      let real : cell ≢ [] = λ none. omega (arith, long-some place rowid row, ap length none) in
       record {
-        whole = omega (arith, r.holds.whole, longer, chain-whole (length row) place rest);
+        whole = omega (arith, r.holds.whole, longer, whole);
         fits = more-fits to.cells cell size (long_cell_size place rowid row) r.room;
         few = omega (arith, r.holds.few, longer, length-append to.cells (cell ∷ []));
-        last = omega (arith, next);
+        last = next;
         short = All-push (λ (e : Entry). length e.payload ≤ length (to.pages ++ pages) + 4061) entries (row_entry rowid row)
             (λ k d lt. omega (arith, r.holds.short k d lt, longer)) (omega (arith, left, held, local-most (length row), longer));
-        says = λ part stand short.
-            let old : Says part to entries = r.holds.says part (stand-front part base to.pages pages stand) (omega (arith, longer, short)) in
-            let rowid-small : rowid < 2 ^ 56 = omega (arith, next, r.holds.few, r.holds.fits, longer, short) in
+        role = role;
+        fresh = λ number past-all.
+            given-behind (number_of place) (number_of behind) cell r.holds.role number (omega (arith, past-all, up)) past-all ∙ r.holds.fresh number (omega (arith, past-all, up));
+        leafy = λ k within-all is.
+            elim (cases_lt k (length to.pages / 4096)) [
+              | inl front ↦ r.holds.leafy k (omega (arith, front)) (sym (before k (omega (arith, front))) ∙ is)
+              | inr there ↦
+                  let j : ℕ = k - length to.pages / 4096 in
+                  let e : place + j ≡ base + k = omega (arith, there) in
+                  absurd (real (sym (inside j (omega (arith, within-all, longer, there, r.holds.whole))) ∙ ap (λ p. role (number_of p)) e ∙ is))
+            ];
+        says = λ layout lies short.
+            let Placed : ℕ → List ℕ → Type 0 = λ number p. IsPlaced layout (role number) number p in
+            let front : Lies layout r.holds.role base to.pages = λ k there.
+            subst (λ owner. IsPlaced layout owner (number_of (base + k)) (page_at to.pages k)) (before k there) (each-front Placed base to.pages pages lies k there) in
+            let links : EachPage (IsLink layout cell) place pages = λ k there.
+            (subst (λ owner. IsPlaced layout owner (number_of (place + k)) (page_at pages k)) (inside k there) (each-next Placed base to.pages pages r.holds.whole lies k there)).link real in
+            let old : Says layout r.holds.role base to entries = r.holds.says layout front (omega (arith, longer, short)) in
+            let small : rowid < 2 ^ 56 = omega (arith, next, r.holds.few, r.holds.fits, longer, short) in
             let row-short : length row < 2 ^ 56 = omega (arith, left, held, local-most (length row), longer, short) in
-            cell-says part (to.pages ++ pages) to rowid row cell entries old
-            (long-says part place rowid row rowid-small row-short long (stand-next part base to.pages pages r.holds.whole stand));
+            row-says layout r.holds.role role to (to.pages ++ pages) rowid row cell entries (omega (arith, next, r.holds.last)) old
+            (long-says layout.spill place rowid row small row-short long (λ k there. (links k there).0))
+            (long-chained layout place rowid row small row-short long links (omega (arith, past)))
+            (λ k there is.
+            elim (cases_lt k (length to.pages / 4096)) [
+              | inl low ↦ inl (omega (arith, low), λ none. is (before k (omega (arith, low)) ∙ none))
+              | inr high ↦
+                  let j : ℕ = k - length to.pages / 4096 in
+                  let e : place + j ≡ base + k = omega (arith, high) in
+                  inr (subst (λ p. IsLinkOfRow Table 4096 layout.spill cell (number_of p)) e
+                  (long-linked layout place rowid row small row-short long links j (omega (arith, there, longer, high, r.holds.whole))))
+            ]);
       }
 
   row-holds : (laid : Laid) (count rowid : ℕ) (row : List ℕ) (entries : List Entry) → rowid ≡ count + 1 → 1 < length row → Holds base laid count entries →

@@ -11,3 +11,5 @@ pub mod Files
 pub mod Records
 pub mod FirstPage
 pub mod Images
+pub mod Roles
+pub mod Rising

@@ -10,7 +10,7 @@ use Rattle.sqlite_format.specs.Varint.{varint_len, varint_value}
 use Rattle.sqlite_format.specs.Cell.{body_key, body_size, first_overflow, flip_sign, head_len, local_len, local_part, payload_len, spilled_len, stored_len}
 use Rattle.sqlite_format.proofs.CellLemmas.{overflow_is, stored_len_spilled}
 use Rattle.sqlite_btree.specs.Part.{Part}
-use Rattle.sqlite_btree.specs.Chain.{chain_bytes, payload_in}
+use Rattle.sqlite_btree.specs.Chain.{IsChain, IsOnChain, Layout, chain_bytes, payload_in}
 use Rattle.sqlite_btree.proofs.ChainLemmas.{bytes_none, bytes_step}
 use Rattle.db_records.specs.Varint.{varint}
 use Rattle.db_records.proofs.Varints.{varint-len, varint-value}
@@ -18,9 +18,9 @@ use Rattle.db_pages.specs.Laid.{chain, long_cell}
 use Rattle.db_pages.specs.Numbers.{four_bytes, number_of}
 use Rattle.db_pages.proofs.Chains.{chain-last, chain-more, last_link, link}
 use Rattle.db_pages.proofs.Sizes.{local-most, local-within}
-use Rattle.db_reading.specs.Pages.{Stand}
+use Rattle.db_reading.specs.Pages.{EachPage, Stand}
 use Rattle.db_reading.proofs.Inner.{four-read}
-use Rattle.db_reading.proofs.Standing.{stand-back, stand-one}
+use Rattle.db_reading.proofs.Standing.{each-back, each-first, each-page, stand-back, stand-one}
 
 min-right : (n : ℕ) → n ≤ 4092 → min 4092 n ≡ n
 min-right n h = omega (arith, h)
@@ -192,3 +192,81 @@ chain-holds (suc fuel) place rest enough =
           )
       | inr short ↦ omega (arith, ap length (chain-last fuel place rest short), length-append rest (replicate (4092 - length rest) 0))
     ]
+
+pub chain-none : (layout : Layout) (row : List ℕ) (fuel page left : ℕ) → left ≡ 0 → page ≡ 0 → IsChain layout 4096 row fuel page left
+chain-none layout row zero page left none last = (none, last)
+chain-none layout row (suc fuel) page left none last = inl (none, last)
+
+past-zero : (place : ℕ) → 0 < place → 1 < number_of place
+past-zero place some = grind (arith, nat_tests)
+
+module _ (layout : Layout) (row : List ℕ) where
+  -- a page of a layout that holds the rest of the row
+  abbrev pub IsLink : ℕ → List ℕ → Type 0
+  IsLink number page = (layout.spill number ≡ page) × (layout.owner number ≡ row)
+
+  one-link : (fuel place left next : ℕ) (page : List ℕ) → 0 < left → 0 < place → length page ≡ 4096 → u32_at page 0 ≡ next → IsLink (number_of place) page →
+      IsChain layout 4096 row fuel next (left - min 4092 left) → IsChain layout 4096 row (suc fuel) (number_of place) left
+  one-link fuel place left next page some past size names link rest =
+      let points : u32_at (layout.spill (number_of place)) 0 ≡ next = ap (λ p. u32_at p 0) link.0 ∙ names in
+      inr (some, past-zero place past, ap length link.0 ∙ size, link.1, subst (λ n. IsChain layout 4096 row fuel n (left - min 4092 left)) (sym points) rest)
+
+  -- the pages of a chain are the row's own
+  pub chain-owned : (fuel gas place : ℕ) (rest : List ℕ) → 0 < place → 0 < length rest → length rest ≤ fuel → length rest < gas → EachPage IsLink place (chain gas place rest) →
+      IsChain layout 4096 row fuel (number_of place) (length rest)
+  chain-owned zero gas place rest past some enough more links = absurd (let no : ⊥ = omega (arith, some, enough) in no)
+  chain-owned (suc fuel) zero place rest past some enough more links = absurd (let no : ⊥ = omega (arith, more) in no)
+  chain-owned (suc fuel) (suc gas) place rest past some enough more links =
+      elim (cases_lt 4092 (length rest)) [
+        | inl long ↦
+            let behind : List ℕ = drop 4092 rest in
+            let others : List ℕ = chain gas (place + 1) behind in
+            let page : List ℕ = four_bytes (number_of (place + 1)) ++ take 4092 rest in
+            let size : length page ≡ 4096 = omega (arith, length-take-le 4092 rest (omega (arith, long))) in
+            let left : length behind ≡ length rest - 4092 = length-drop 4092 rest in
+            let links′ : EachPage IsLink place (page ++ others) = subst (EachPage IsLink place) (chain-more gas place rest long) links in
+            let same : length behind ≡ length rest - min 4092 (length rest) = omega (arith, left, min-left (length rest) (omega (arith, long))) in
+            one-link fuel place (length rest) (number_of (place + 1)) page some past size (four-read (number_of (place + 1))) (each-first IsLink place page others size links′)
+            (subst (λ n. IsChain layout 4096 row fuel (number_of (place + 1)) n) same
+            (chain-owned fuel gas (place + 1) behind (omega arith) (omega (arith, left, long)) (omega (arith, left, long, enough)) (omega (arith, left, long, more))
+            (each-back IsLink place 1 page others size links′)))
+        | inr short ↦
+            let zeros : List ℕ = replicate (4092 - length rest) 0 in
+            let page : List ℕ = last_link rest in
+            let size : length page ≡ 4096 = omega (arith, short, length-append rest zeros, length-replicate {A = ℕ} (4092 - length rest) 0) in
+            one-link fuel place (length rest) 0 page some past size refl (each-page IsLink place page size (subst (EachPage IsLink place) (chain-last gas place rest short) links))
+            (chain-none layout row fuel 0 (length rest - min 4092 (length rest)) (omega (arith, min-right (length rest) short)) refl)
+      ]
+
+  -- and each of them is on the chain
+  pub chain-reached : (fuel gas place : ℕ) (rest : List ℕ) → 0 < length rest → length rest ≤ fuel → length rest < gas → EachPage IsLink place (chain gas place rest) →
+      (k : ℕ) → 4096 * (k + 1) ≤ length (chain gas place rest) → IsOnChain layout.spill 4096 fuel (number_of place) (length rest) (number_of (place + k))
+  chain-reached zero gas place rest some enough more links k within = absurd (let no : ⊥ = omega (arith, some, enough) in no)
+  chain-reached (suc fuel) zero place rest some enough more links k within = absurd (let no : ⊥ = omega (arith, more) in no)
+  chain-reached (suc fuel) (suc gas) place rest some enough more links zero within =
+      let e : place + 0 ≡ place = omega arith in (some, inl (ap number_of e))
+  chain-reached (suc fuel) (suc gas) place rest some enough more links (suc k) within =
+      elim (cases_lt 4092 (length rest)) [
+        | inl long ↦
+            let behind : List ℕ = drop 4092 rest in
+            let others : List ℕ = chain gas (place + 1) behind in
+            let page : List ℕ = four_bytes (number_of (place + 1)) ++ take 4092 rest in
+            let size : length page ≡ 4096 = omega (arith, length-take-le 4092 rest (omega (arith, long))) in
+            let left : length behind ≡ length rest - 4092 = length-drop 4092 rest in
+            let links′ : EachPage IsLink place (page ++ others) = subst (EachPage IsLink place) (chain-more gas place rest long) links in
+            let same : length behind ≡ length rest - min 4092 (length rest) = omega (arith, left, min-left (length rest) (omega (arith, long))) in
+            let points : number_of (place + 1) ≡ u32_at (layout.spill (number_of place)) 0 =
+            sym (ap (λ p. u32_at p 0) (each-first IsLink place page others size links′).0 ∙ four-read (number_of (place + 1))) in
+            let e : place + 1 + k ≡ place + suc k = omega arith in
+            let longer : length (chain (suc gas) place rest) ≡ length page + length others = ap length (chain-more gas place rest long) ∙ length-append page others in (
+              some,
+              inr (subst (λ n. IsOnChain layout.spill 4096 fuel n (length rest - min 4092 (length rest)) (number_of (place + suc k))) points
+                  (subst (λ n. IsOnChain layout.spill 4096 fuel (number_of (place + 1)) n (number_of (place + suc k))) same
+                  (subst (λ p. IsOnChain layout.spill 4096 fuel (number_of (place + 1)) (length behind) (number_of p)) e
+                  (chain-reached fuel gas (place + 1) behind (omega (arith, left, long)) (omega (arith, left, long, enough)) (omega (arith, left, long, more))
+                  (each-back IsLink place 1 page others size links′) k (omega (arith, within, longer, size)))))),
+            )
+        | inr short ↦
+            let zeros : List ℕ = replicate (4092 - length rest) 0 in
+            absurd (let no : ⊥ = omega (arith, within, ap length (chain-last gas place rest short), short, length-append rest zeros, length-replicate {A = ℕ} (4092 - length rest) 0) in no)
+      ]

@@ -1,11 +1,12 @@
 -- Pages that stand one behind another.
-use Rattle.std.proofs.Common.{◌≡◌, ℕ, ◌+◌, ◌*◌, ◌/◌, ◌%◌, ◌≤◌, List, ◌++◌, length, take, drop, sym, ◌∙◌, ap, arith, length-append, length-drop}
+use Rattle.std.proofs.Common.{◌≡◌, ℕ, ◌+◌, ◌*◌, ◌/◌, ◌%◌, ◌<◌, ◌≤◌, List, ◌++◌, length, take, drop, sym, ◌∙◌, ap, subst, arith, length-append, length-drop}
 use Rattle.std.proofs.Math.Seq.{drop-append-add}
+use Rattle.std.proofs.lemmas.Bool.Decides.{nat_tests}
 use Rattle.std.proofs.lemmas.List.{take-append-le, drop-append-le, take_all}
 use Rattle.sqlite_btree.specs.Part.{Part}
 use Rattle.db_pages.specs.Laid.{next_place}
 use Rattle.db_pages.specs.Numbers.{number_of}
-use Rattle.db_reading.specs.Pages.{Stand, page_at}
+use Rattle.db_reading.specs.Pages.{EachPage, Stand, page_at}
 
 pub page-front : (xs ys : List ℕ) (k : ℕ) → 4096 * (k + 1) ≤ length xs → page_at (xs ++ ys) k ≡ page_at xs k
 page-front xs ys k within =
@@ -17,32 +18,59 @@ page-back xs ys n k whole =
     let e : 4096 * (n + k) ≡ length xs + 4096 * k = omega (arith, whole) in
     ap (λ from. take 4096 (drop from (xs ++ ys))) e ∙ ap (λ bytes. take 4096 bytes) (drop-append-add xs ys (4096 * k))
 
-pub page-only : (page : List ℕ) → length page ≡ 4096 → page_at page 0 ≡ page
+page-only : (page : List ℕ) → length page ≡ 4096 → page_at page 0 ≡ page
 page-only page size = take_all 4096 page (omega (arith, size))
 
-module _ (part : Part) where
+-- a page behind another has a larger number
+pub number-up : (a b : ℕ) → a < b → number_of a < number_of b
+number-up a b less = grind (arith, nat_tests)
+
+pub number-least : (place k : ℕ) → number_of place ≤ number_of (place + k)
+number-least place k = grind (arith, nat_tests)
+
+module _ (P : ℕ → List ℕ → Type 0) where
   -- those in front
-  pub stand-front : (place : ℕ) (xs ys : List ℕ) → Stand part place (xs ++ ys) → Stand part place xs
-  stand-front place xs ys stand = λ k within. stand k (omega (arith, within, length-append xs ys)) ∙ page-front xs ys k within
+  pub each-front : (place : ℕ) (xs ys : List ℕ) → EachPage P place (xs ++ ys) → EachPage P place xs
+  each-front place xs ys all =
+      λ k within. subst (P (number_of (place + k))) (page-front xs ys k within) (all k (omega (arith, within, length-append xs ys)))
 
   -- those behind so many pages
-  pub stand-back : (place n : ℕ) (xs ys : List ℕ) → length xs ≡ 4096 * n → Stand part place (xs ++ ys) → Stand part (place + n) ys
-  stand-back place n xs ys whole stand =
+  pub each-back : (place n : ℕ) (xs ys : List ℕ) → length xs ≡ 4096 * n → EachPage P place (xs ++ ys) → EachPage P (place + n) ys
+  each-back place n xs ys whole all =
       λ k within.
-      let e : place + n + k ≡ place + (n + k) = omega arith in
-      ap (λ p. part (number_of p)) e ∙ stand (n + k) (omega (arith, within, whole, length-append xs ys)) ∙ page-back xs ys n k whole
+      let e : place + (n + k) ≡ place + n + k = omega arith in
+      subst (λ p. P (number_of p) (page_at ys k)) e
+      (subst (P (number_of (place + (n + k)))) (page-back xs ys n k whole) (all (n + k) (omega (arith, within, whole, length-append xs ys))))
 
   -- those behind whole pages
-  pub stand-next : (place : ℕ) (xs ys : List ℕ) → length xs % 4096 ≡ 0 → Stand part place (xs ++ ys) → Stand part (next_place place xs) ys
-  stand-next place xs ys whole = stand-back place (length xs / 4096) xs ys (omega (arith, whole))
+  pub each-next : (place : ℕ) (xs ys : List ℕ) → length xs % 4096 ≡ 0 → EachPage P place (xs ++ ys) → EachPage P (next_place place xs) ys
+  each-next place xs ys whole all = each-back place (length xs / 4096) xs ys (omega (arith, whole)) all
+
+  -- a page alone
+  pub each-page : (place : ℕ) (page : List ℕ) → length page ≡ 4096 → EachPage P place page → P (number_of place) page
+  each-page place page size all =
+      let e : place + 0 ≡ place = omega arith in
+      subst (λ p. P (number_of p) page) e (subst (P (number_of (place + 0))) (page-only page size) (all 0 (omega (arith, size))))
 
   -- one page, whatever is behind it
+  pub each-first : (place : ℕ) (page ys : List ℕ) → length page ≡ 4096 → EachPage P place (page ++ ys) → P (number_of place) page
+  each-first place page ys size all = each-page place page size (each-front place page ys all)
+
+module _ (part : Part) where
+  abbrev IsThere : ℕ → List ℕ → Type 0
+  IsThere number page = part number ≡ page
+
+  pub stand-front : (place : ℕ) (xs ys : List ℕ) → Stand part place (xs ++ ys) → Stand part place xs
+  stand-front = each-front IsThere
+
+  pub stand-back : (place n : ℕ) (xs ys : List ℕ) → length xs ≡ 4096 * n → Stand part place (xs ++ ys) → Stand part (place + n) ys
+  stand-back = each-back IsThere
+
+  pub stand-next : (place : ℕ) (xs ys : List ℕ) → length xs % 4096 ≡ 0 → Stand part place (xs ++ ys) → Stand part (next_place place xs) ys
+  stand-next = each-next IsThere
+
   pub stand-one : (place : ℕ) (page ys : List ℕ) → length page ≡ 4096 → Stand part place (page ++ ys) → part (number_of place) ≡ page
-  stand-one place page ys size stand =
-      let e : place ≡ place + 0 = omega arith in
-      ap (λ p. part (number_of p)) e ∙ stand 0 (omega (arith, size, length-append page ys)) ∙ page-front page ys 0 (omega (arith, size)) ∙ page-only page size
+  stand-one = each-first IsThere
 
   pub stand-page : (place : ℕ) (page : List ℕ) → length page ≡ 4096 → Stand part place page → part (number_of place) ≡ page
-  stand-page place page size stand =
-      let e : place ≡ place + 0 = omega arith in
-      ap (λ p. part (number_of p)) e ∙ stand 0 (omega (arith, size)) ∙ page-only page size
+  stand-page = each-page IsThere

@@ -1,18 +1,18 @@
 -- Trees of rows, as they are read.
-use Rattle.std.proofs.Common.{◌≡◌, ℕ, zero, suc, ◌+◌, ◌*◌, ◌%◌, ◌^◌, ◌<◌, ◌≤◌, ◌==◌, ◌||◌, Bool, true, false, if◌then◌else◌, List, [], ◌∷◌, ◌++◌, length, map, flat_map, refl, sym, ◌∙◌, ap, subst, arith, append-nil, length-append, All}
-use Rattle.std.proofs.lemmas.Bool.{cond-true, false≢true}
-use Rattle.std.proofs.lemmas.List.{map-append}
+use Rattle.std.proofs.Common.{◌≡◌, ◌≢◌, ◌⊎◌, ℕ, zero, suc, ◌+◌, ◌-◌, ◌*◌, ◌/◌, ◌%◌, ◌^◌, ◌<◌, ◌≤◌, ◌==◌, ◌||◌, Bool, true, false, if◌then◌else◌, List, [], ◌∷◌, ◌++◌, length, map, flat_map, refl, sym, ◌∙◌, ap, subst, arith, inl, inr, append-nil, length-append, All}
+use Rattle.std.proofs.lemmas.Bool.{cases_lt, cond-true, false≢true}
+use Rattle.std.proofs.lemmas.List.{length-map, map-append}
 use Rattle.std.proofs.lemmas.List.Elements.{All-nil}
 use Rattle.sqlite_pages.specs.PageMap.{PageMap}
 use Rattle.sqlite_format.specs.declared.kind.Tree.TheVariants.{Table}
 use Rattle.sqlite_format.specs.Cell.{IsCell}
 use Rattle.sqlite_format.specs.Page.{IsPage, page_cells}
 use Rattle.sqlite_btree.specs.Part.{Part, all_pages}
-use Rattle.sqlite_btree.specs.Cut.{Each}
+use Rattle.sqlite_btree.specs.Cut.{Ascends, Each}
 use Rattle.sqlite_btree.specs.Items.{Item, cell_item, rows_of}
-use Rattle.sqlite_btree.specs.Tree.{IsPageOf, IsTop, IsTree, cells_of, header_of, right_of, tree_items}
-use Rattle.sqlite_btree.specs.Chain.{Entry, entry_of}
-use Rattle.sqlite_btree.specs.Stored.{entries_at, form_of, height_from, no_order, precedes}
+use Rattle.sqlite_btree.specs.Tree.{IsPageOf, IsTop, IsTree, Reaches, cells_of, header_of, right_of, top_cells, tree_items}
+use Rattle.sqlite_btree.specs.Chain.{Entry, Layout, entry_of}
+use Rattle.sqlite_btree.specs.Stored.{entries_at, form_of, height_from, no_order}
 use Rattle.sqlite_btree.proofs.TreeLemmas.{EachChild-last, header_of_other}
 use Rattle.db_records.specs.Laws.{HoldsCells, leaf_kind}
 use Rattle.db_records.specs.Page.{leaf_page}
@@ -27,19 +27,22 @@ use Rattle.db_pages.proofs.Counted.{AllShort, Adds, Counts, end-counts, nothing-
 use Rattle.db_reading.specs.Entries.{row_entries}
 use Rattle.db_reading.specs.Pages.{Stand}
 use Rattle.db_reading.proofs.Each.{each-so}
+use Rattle.db_reading.proofs.Groups.{Some-of}
 use Rattle.db_reading.proofs.LeafCells.{leaf_entry}
-use Rattle.db_reading.proofs.Leaves.{Holds, IsLeaf, Says, end-holds, none-left, nothing-holds, page_entries, rows-hold}
-use Rattle.db_reading.proofs.Levels.{Heads, Root, form, levels-root, most, past-first, rows_under}
-use Rattle.db_reading.proofs.Standing.{stand-front, stand-next, stand-page}
-
-map-flat_map : {X Y Z : Type 0} (g : Y → Z) (f : X → List Y) (xs : List X) → map g (flat_map f xs) ≡ flat_map (λ x. map g (f x)) xs
-map-flat_map g f [] = refl
-map-flat_map g f (x ∷ xs) = map-append g (f x) (flat_map f xs) ∙ ap (λ ys. map g (f x) ++ ys) (map-flat_map g f xs)
+use Rattle.db_reading.proofs.Leaves.{AreAllowed, Holds, IsAmong, IsChainedCell, IsLeaf, IsLinked, Says, Spans, all_cells, end-holds, leaf_cells, none-left, nothing-holds, rows-hold}
+use Rattle.db_reading.proofs.Levels.{Heads, Reached, Root, form, levels-root, past-first, rows_under}
+use Rattle.db_reading.proofs.Rising.{IsRising, Rise, by_rank, edge, item_rank, leaf-rises}
+use Rattle.db_reading.proofs.Roles.{IsPlaced, Lies, Role}
+use Rattle.db_reading.proofs.Standing.{each-front, each-next, each-page, number-least}
 
 module _ (order : Item → Item → Bool) (part : Part) where
   pub tree-top : (height page : ℕ) → IsTree (form order part) part height page → IsTop (form order part) part height page
   tree-top zero page tree = (tree.0, tt)
   tree-top (suc height) page tree = (tree.0, tree.1)
+
+  top-full : (height page : ℕ) → IsTree (form order part) part height page → 0 < length (top_cells (form order part) part height page)
+  top-full zero page tree = tree.2
+  top-full (suc height) page tree = tree.2
 
   -- the height that a reader finds along the last children
   pub height-is : (height fuel page : ℕ) → IsTop (form order part) part height page → height < fuel → height_from fuel part page ≡ height
@@ -59,60 +62,71 @@ module _ (order : Item → Item → Bool) (part : Part) where
       let header : header_of page ≡ 0 = header_of_other page past in
       let node : IsPageOf (form order part) true page (part page) =
       record { sound = subst (λ k. IsPage leaf_kind (part page) k) (sym header) leaf.sound; size = leaf.size } in
-      let cells : cells_of (form order part) true part page ≡ page_cells leaf_kind (part page) 0 = ap (λ k. page_cells leaf_kind (part page) k) header in
+      let cells : cells_of (form order part) true part page ≡ leaf_cells part child = ap (λ k. page_cells leaf_kind (part page) k) header in
       record { tree = (node, tt, omega (arith, leaf.some, ap length cells), past); small = leaf.small }
 
-  cells-entries : (cells : List (List ℕ)) → map (entry_of Table 4096 part) (rows_of (map (cell_item (form order part) true) cells)) ≡ map (leaf_entry part) cells
-  cells-entries [] = refl
-  cells-entries (cell ∷ cells) = ap (λ es. leaf_entry part cell ∷ es) (cells-entries cells)
+  -- the cell of a row as an item
+  abbrev pub row_item : List ℕ → Item
+  row_item = cell_item (form order part) true
 
-  leaf-entries : (child : Child) → IsLeaf part child → map (entry_of Table 4096 part) (rows_under order part 0 child) ≡ page_entries part (number_of child.place)
-  leaf-entries child leaf =
+  rows-all : (cells : List (List ℕ)) → rows_of (map row_item cells) ≡ map row_item cells
+  rows-all [] = refl
+  rows-all (cell ∷ cells) = ap (λ xs. row_item cell ∷ xs) (rows-all cells)
+
+  leaf-items : (child : Child) → IsLeaf part child → tree_items (form order part) part 0 (number_of child.place) ≡ map row_item (leaf_cells part child)
+  leaf-items child leaf =
       let page : ℕ = number_of child.place in
-      let header : header_of page ≡ 0 = header_of_other page (past-first child.place leaf.behind) in
-      cells-entries (cells_of (form order part) true part page) ∙ ap (λ k. map (leaf_entry part) (page_cells leaf_kind (part page) k)) header
+      ap (λ k. map row_item (page_cells leaf_kind (part page) k)) (header_of_other page (past-first child.place leaf.behind))
 
-  leaves-entries : (leaves : List Child) → Each (IsLeaf part) leaves →
-      map (entry_of Table 4096 part) (flat_map (rows_under order part 0) leaves) ≡ flat_map (λ (child : Child). page_entries part (number_of child.place)) leaves
-  leaves-entries [] all = refl
-  leaves-entries (child ∷ leaves) all =
-      map-append (entry_of Table 4096 part) (rows_under order part 0 child) (flat_map (rows_under order part 0) leaves)
-      ∙ ap (λ xs. xs ++ map (entry_of Table 4096 part) (flat_map (rows_under order part 0) leaves)) (leaf-entries child all.0)
-      ∙ ap (λ xs. page_entries part (number_of child.place) ++ xs) (leaves-entries leaves all.1)
+  leaves-items : (leaves : List Child) → Each (IsLeaf part) leaves → flat_map (rows_under order part 0) leaves ≡ map row_item (flat_map (leaf_cells part) leaves)
+  leaves-items [] all = refl
+  leaves-items (child ∷ leaves) all =
+      ap (λ xs. rows_of xs ++ flat_map (rows_under order part 0) leaves) (leaf-items child all.0)
+      ∙ ap (λ xs. xs ++ flat_map (rows_under order part 0) leaves) (rows-all (leaf_cells part child))
+      ∙ ap (λ xs. map row_item (leaf_cells part child) ++ xs) (leaves-items leaves all.1)
+      ∙ sym (map-append row_item (leaf_cells part child) (flat_map (leaf_cells part) leaves))
 
-  -- a root under which are these rows
-  pub record TreeReads (place : ℕ) (entries : List Entry) : Type 0 where
-    pub tall : ℕ
-    pub shallow : tall < 19
-    pub top : IsTop (form order part) part tall (number_of place)
-    pub rows : map (entry_of Table 4096 part) (rows_of (tree_items (form order part) part tall (number_of place))) ≡ entries
+  pub items-entries : (spill : Part) (cells : List (List ℕ)) → map (entry_of Table 4096 spill) (map row_item cells) ≡ map (leaf_entry spill) cells
+  items-entries spill [] = refl
+  items-entries spill (cell ∷ cells) = ap (λ es. leaf_entry spill cell ∷ es) (items-entries spill cells)
 
-  leaves-read : (above : ℕ) (leaves : List Child) (entries : List Entry) → 0 < length leaves → length leaves < 2 ^ 43 → 0 < above → Each (IsLeaf part) leaves →
-      flat_map (λ (child : Child). page_entries part (number_of child.place)) leaves ≡ entries → Stand part above (levels_pages 6 above leaves) →
-      TreeReads (root_place 6 above leaves) entries
-  leaves-read above leaves entries some few past all is stand =
-      let heads : Each (Heads order part 0) leaves = each-so (IsLeaf part) (Heads order part 0) leaf-heads leaves all in
-      let r : Root order part 0 6 leaves (root_place 6 above leaves) = levels-root order part 6 0 above leaves some few past heads stand in
-      record {
-        tall = r.tall;
-        shallow = omega (arith, r.shallow);
-        top = tree-top r.tall (number_of (root_place 6 above leaves)) r.tree;
-        rows = ap (map (entry_of Table 4096 part)) r.rows ∙ leaves-entries leaves all ∙ is;
-      }
+  among-some : (place : ℕ) (leaves : List Child) → IsAmong place leaves → Some-of (Reached order part 0 (number_of place)) leaves
+  among-some place [] among = absurd among
+  among-some place (child ∷ leaves) among = elim among [ inl here ↦ inl (ap number_of (sym here)) | inr there ↦ inr (among-some place leaves there) ]
 
-  -- a leaf without a cell
-  empty-reads : (place : ℕ) → 0 < place → part (number_of place) ≡ leaf_page [] → TreeReads place []
-  empty-reads place some here =
-      let page : ℕ = number_of place in
-      let header : header_of page ≡ 0 = header_of_other page (past-first place some) in
-      let holds : HoldsCells leaf_kind (leaf_page []) [] = leaf-holds [] (All-nil (IsCell leaf_kind 4096)) (omega arith) in
-      let node : IsPageOf (form order part) true page (part page) = record {
-        sound = subst (λ k. IsPage leaf_kind (part page) k) (sym header) (subst (λ p. IsPage leaf_kind p 0) (sym here) holds.sound);
-        size = ap length here ∙ holds.size;
-      } in
-      let cells : cells_of (form order part) true part page ≡ [] =
-      ap (λ k. page_cells leaf_kind (part page) k) header ∙ ap (λ p. page_cells leaf_kind p 0) here ∙ holds.found in
-      record { tall = 0; shallow = omega arith; top = (node, tt); rows = cells-entries (cells_of (form order part) true part page) ∙ ap (map (leaf_entry part)) cells }
+-- leaves in order rise
+leaves-rise : (order : Item → Item → Bool) (layout : Layout) (low : ℕ) (leaves : List Child) (high : ℕ) → Each (IsLeaf layout.nodes) leaves → Spans layout low leaves high →
+    Rise order layout.nodes 0 low leaves
+leaves-rise order layout low [] high all spans = tt
+leaves-rise order layout low (child ∷ leaves) high all spans =
+    let says : map (leaf_entry layout.spill) (leaf_cells layout.nodes child) ≡ row_entries (low + 1) spans.0 = spans.1 in
+    let some : 0 < length spans.0 =
+    omega (arith, all.0.some, length-map (leaf_cells layout.nodes child) (leaf_entry layout.spill), ap length says, length-entries (low + 1) spans.0) in
+    let rises : IsRising (edge low) (edge (low + length spans.0)) (map item_rank (map (row_item order layout.nodes) (leaf_cells layout.nodes child))) =
+    leaf-rises order layout.spill (leaf_cells layout.nodes child) spans.0 low says some (omega (arith, spans.2, all.0.small)) in (
+      subst (λ last. IsRising (edge low) (edge last) (map item_rank (tree_items (form order layout.nodes) layout.nodes 0 (number_of child.place)))) (sym spans.2)
+          (subst (λ items. IsRising (edge low) (edge (low + length spans.0)) (map item_rank items)) (sym (leaf-items order layout.nodes child all.0)) rises),
+      leaves-rise order layout child.last leaves high all.1 spans.3,
+    )
+  where
+    length-entries : (rowid : ℕ) (rows : List (List ℕ)) → length (row_entries rowid rows) ≡ length rows
+    length-entries rowid [] = refl
+    length-entries rowid (row ∷ rows) = ap suc (length-entries (rowid + 1) rows)
+
+-- a tree of rows, whose pages lie in a layout by their roles
+pub record TreeReads (order : Item → Item → Bool) (layout : Layout) (role : Role) (base : ℕ) (bytes : List ℕ) (place : ℕ) (entries : List Entry) : Type 0 where
+  pub tall : ℕ
+  pub shallow : tall < 19
+  pub top : IsTop (form order layout.nodes) layout.nodes tall (number_of place)
+  pub full : (tall ≡ 0) ⊎ (0 < length (top_cells (form order layout.nodes) layout.nodes tall (number_of place)))
+  pub ascends : Ascends by_rank (tree_items (form order layout.nodes) layout.nodes tall (number_of place))
+  pub cells : List (List ℕ)
+  pub rows : rows_of (tree_items (form order layout.nodes) layout.nodes tall (number_of place)) ≡ map (row_item order layout.nodes) cells
+  pub says : map (leaf_entry layout.spill) cells ≡ entries
+  pub chained : AreAllowed entries → Each (IsChainedCell layout) cells
+  pub nodes : (k : ℕ) → 4096 * (k + 1) ≤ length bytes → role (number_of (base + k)) ≡ [] →
+      Reaches (form order layout.nodes) layout.nodes tall (number_of place) (number_of (base + k))
+  pub links : (k : ℕ) → 4096 * (k + 1) ≤ length bytes → role (number_of (base + k)) ≢ [] → IsLinked layout cells (number_of (base + k))
 
 -- the pages of leaves and those above them
 abbrev over : Grown → TreeBytes
@@ -135,7 +149,7 @@ module _ (base : ℕ) (rows : List (List ℕ)) (past : 0 < base) (some : All (λ
   abbrev laid : Laid
   laid = ended base (with_rows base nothing_laid 1 rows)
 
-  holds : Holds base laid (0 + length rows) (row_entries 1 rows)
+  pub holds : Holds base laid (0 + length rows) (row_entries 1 rows)
   holds = end-holds base past (with_rows base nothing_laid 1 rows) (0 + length rows) (row_entries 1 rows) (rows-hold base past rows nothing_laid 0 1 [] refl some (nothing-holds base))
 
   leaves-few : 4096 * length laid.leaves ≤ length laid.pages
@@ -170,53 +184,125 @@ module _ (base : ℕ) (rows : List (List ℕ)) (past : 0 < base) (some : All (λ
   pub rows-short : All (λ (e : Entry). length e.payload ≤ length (tree_of base rows).bytes + 4061) (row_entries 1 rows)
   rows-short = λ k d lt. omega (arith, holds.short k d lt, pages-within)
 
-  module _ (order : Item → Item → Bool) (part : Part) where
-    -- what the tree of some leaves is to a reader
+  -- the roles of its pages
+  abbrev pub tree-role : Role
+  tree-role = holds.role
+
+  module _ (order : Item → Item → Bool) where
     abbrev Reads : TreeBytes → Type 0
-    Reads tree = length tree.bytes < 2 ^ 50 → Stand part base tree.bytes → TreeReads order part tree.root (row_entries 1 rows)
+    Reads tree = (layout : Layout) → length tree.bytes < 2 ^ 50 → Lies layout holds.role base tree.bytes → TreeReads order layout holds.role base tree.bytes tree.root (row_entries 1 rows)
 
     some-read : is_empty_list laid.leaves ≡ false → Reads (over (grown base 1 rows))
-    some-read are short stand =
+    some-read are layout short lies =
+        let role : Role = holds.role in
+        let Placed : ℕ → List ℕ → Type 0 = λ number p. IsPlaced layout (role number) number p in
+        let leaves : List Child = laid.leaves in
         let above : ℕ = next_place base laid.pages in
-        let levels : List ℕ = levels_pages 6 above laid.leaves in
+        let levels : List ℕ = levels_pages 6 above leaves in
         let longer : length (laid.pages ++ levels) ≡ length laid.pages + length levels = length-append laid.pages levels in
-        let s : Says part laid (row_entries 1 rows) = holds.says part (stand-front part base laid.pages levels stand) (omega (arith, longer, short)) in
-        let says-of : List Entry = flat_map (λ (child : Child). page_entries part (number_of child.place)) laid.leaves in
-        let read : says-of ≡ row_entries 1 rows =
-        sym (append-nil says-of) ∙ ap (λ cells. says-of ++ map (leaf_entry part) cells) (sym (none-left base past (with_rows base nothing_laid 1 rows))) ∙ s.read in
-        leaves-read order part above laid.leaves (row_entries 1 rows) (some-leaves laid.leaves are) (omega (arith, leaves-few, longer, short)) (omega (arith, past)) s.leaves read
-        (stand-next part base laid.pages levels holds.whole stand)
+        let s : Says layout role base laid (row_entries 1 rows) = holds.says layout (each-front Placed base laid.pages levels lies) (omega (arith, longer, short)) in
+        let none : laid.cells ≡ [] = none-left base past (with_rows base nothing_laid 1 rows) in
+        let cells : List (List ℕ) = flat_map (leaf_cells layout.nodes) leaves in
+        let all : all_cells layout.nodes leaves laid.cells ≡ cells = ap (λ cs. cells ++ cs) none ∙ append-nil cells in
+        let behind : (j : ℕ) → role (number_of (above + j)) ≡ [] = λ j. holds.fresh (number_of (above + j)) (number-least above j) in
+        let stand : Stand layout.nodes above levels = λ k within. (each-next Placed base laid.pages levels holds.whole lies k within).node (behind k) in
+        let heads : Each (Heads order layout.nodes 0) leaves = each-so (IsLeaf layout.nodes) (Heads order layout.nodes 0) (leaf-heads order layout.nodes) leaves s.leaves in
+        let r : Root order layout.nodes 0 6 leaves above levels (root_place 6 above leaves) =
+        levels-root order layout.nodes 6 0 above leaves (some-leaves leaves are) (omega (arith, leaves-few, longer, short)) (omega (arith, past)) heads stand in
+        let root : ℕ = number_of (root_place 6 above leaves) in
+        record {
+          tall = r.tall;
+          shallow = omega (arith, r.shallow);
+          top = tree-top order layout.nodes r.tall root r.tree;
+          full = inr (top-full order layout.nodes r.tall root r.tree);
+          ascends = r.ascends 0 (leaves-rise order layout 0 leaves s.order.high s.leaves s.order.leaves);
+          cells = cells;
+          rows = r.rows ∙ leaves-items order layout.nodes leaves s.leaves;
+          says = ap (map (leaf_entry layout.spill)) (sym all) ∙ s.read;
+          chained = λ allowed. subst (Each (IsChainedCell layout)) all (s.chained allowed);
+          nodes = λ k within is.
+              elim (cases_lt k (length laid.pages / 4096)) [
+                | inl low ↦ r.reach (number_of (base + k)) (among-some order layout.nodes (base + k) leaves (holds.leafy k (omega (arith, low)) is))
+                | inr high ↦
+                    let j : ℕ = k - length laid.pages / 4096 in
+                    let e : above + j ≡ base + k = omega (arith, high) in
+                    subst (λ p. Reaches (form order layout.nodes) layout.nodes r.tall root (number_of p)) e (r.pages j (omega (arith, within, longer, high, holds.whole)))
+              ];
+          links = λ k within is.
+              elim (cases_lt k (length laid.pages / 4096)) [
+                | inl low ↦ subst (λ cs. IsLinked layout cs (number_of (base + k))) all (s.links k (omega (arith, low)) is)
+                | inr high ↦
+                    let j : ℕ = k - length laid.pages / 4096 in
+                    let e : above + j ≡ base + k = omega (arith, high) in
+                    absurd (is (ap (λ p. role (number_of p)) (sym e) ∙ behind j))
+              ];
+        }
 
     none-read : is_empty_list laid.leaves ≡ true → Reads (over (record { base = base; pages = laid.pages ++ leaf_page []; leaves = (record { place = next_place base laid.pages; last = 0 }) ∷ [] }))
-    none-read are short stand =
+    none-read are layout short lies =
+        let role : Role = holds.role in
+        let Placed : ℕ → List ℕ → Type 0 = λ number p. IsPlaced layout (role number) number p in
         let place : ℕ = next_place base laid.pages in
+        let root : ℕ = number_of place in
         let page : List ℕ = leaf_page [] in
         let size : length page ≡ 4096 = length-leaf_page [] (omega arith) in
-        let stand′ : Stand part base (laid.pages ++ page) = subst (Stand part base) (append-nil (laid.pages ++ page)) stand in
+        let lies′ : Lies layout role base (laid.pages ++ page) = subst (Lies layout role base) (append-nil (laid.pages ++ page)) lies in
         let longer : length ((laid.pages ++ page) ++ []) ≡ length laid.pages + length page = ap length (append-nil (laid.pages ++ page)) ∙ length-append laid.pages page in
-        let s : Says part laid (row_entries 1 rows) = holds.says part (stand-front part base laid.pages page stand′) (omega (arith, longer, short)) in
-        let read : [] ≡ row_entries 1 rows =
-        ap (λ cells. map (leaf_entry part) cells) (sym (none-left base past (with_rows base nothing_laid 1 rows)))
-        ∙ ap (λ (leaves : List Child). flat_map (λ (child : Child). page_entries part (number_of child.place)) leaves ++ map (leaf_entry part) laid.cells) (sym (empty-leaves laid.leaves are))
-        ∙ s.read in
-        subst (TreeReads order part place) read
-        (empty-reads order part place (omega (arith, past)) (stand-page part place page size (stand-next part base laid.pages page holds.whole stand′)))
+        let s : Says layout role base laid (row_entries 1 rows) = holds.says layout (each-front Placed base laid.pages page lies′) (omega (arith, longer, short)) in
+        let none : laid.cells ≡ [] = none-left base past (with_rows base nothing_laid 1 rows) in
+        let nothing : laid.leaves ≡ [] = empty-leaves laid.leaves are in
+        let all : all_cells layout.nodes laid.leaves laid.cells ≡ [] = ap (λ cs. flat_map (leaf_cells layout.nodes) laid.leaves ++ cs) none ∙ ap (λ (ls : List Child). flat_map (leaf_cells layout.nodes) ls ++ []) nothing in
+        let node : role root ≡ [] = holds.fresh root (omega arith) in
+        let here : layout.nodes root ≡ page = (each-page Placed place page size (each-next Placed base laid.pages page holds.whole lies′)).node node in
+        let header : header_of root ≡ 0 = header_of_other root (past-first place (omega (arith, past))) in
+        let sound : HoldsCells leaf_kind page [] = leaf-holds [] (All-nil (IsCell leaf_kind 4096)) (omega arith) in
+        let is-page : IsPageOf (form order layout.nodes) true root (layout.nodes root) = record {
+          sound = subst (λ k. IsPage leaf_kind (layout.nodes root) k) (sym header) (subst (λ p. IsPage leaf_kind p 0) (sym here) sound.sound);
+          size = ap length here ∙ size;
+        } in
+        let cells : cells_of (form order layout.nodes) true layout.nodes root ≡ [] =
+        ap (λ k. page_cells leaf_kind (layout.nodes root) k) header ∙ ap (λ p. page_cells leaf_kind p 0) here ∙ sound.found in
+        let items : tree_items (form order layout.nodes) layout.nodes 0 root ≡ [] = ap (map (row_item order layout.nodes)) cells in
+        record {
+          tall = 0;
+          shallow = omega arith;
+          top = (is-page, tt);
+          full = inl refl;
+          ascends = subst (Ascends by_rank) (sym items) tt;
+          cells = [];
+          rows = ap rows_of items;
+          says = ap (map (leaf_entry layout.spill)) (sym all) ∙ s.read;
+          chained = λ allowed. tt;
+          nodes = λ k within is.
+              elim (cases_lt k (length laid.pages / 4096)) [
+                | inl low ↦ absurd (subst (IsAmong (base + k)) nothing (holds.leafy k (omega (arith, low)) is))
+                | inr high ↦ (let e : base + k ≡ place = omega (arith, within, longer, size, high, holds.whole) in ap number_of e)
+              ];
+          links = λ k within is.
+              elim (cases_lt k (length laid.pages / 4096)) [
+                | inl low ↦ subst (λ cs. IsLinked layout cs (number_of (base + k))) all (s.links k (omega (arith, low)) is)
+                | inr high ↦ (let e : place ≡ base + k = omega (arith, within, longer, size, high, holds.whole) in absurd (is (ap (λ p. role (number_of p)) (sym e) ∙ node)))
+              ];
+        }
 
     pub tree-reads : Reads (tree_of base rows)
     tree-reads = by-pages Reads some-read none-read
 
--- what a reader finds in a file's pages
-abbrev pub reading_order : PageMap → Item → Item → Bool
-reading_order pages = λ x y. precedes Table no_order (entry_of Table 4096 (all_pages pages) x) (entry_of Table 4096 (all_pages pages) y)
+-- the pages of a file as a layout: those in which rows go on aren't told from the others
+abbrev pub whole_layout : Part → Role → Layout
+whole_layout part role = record { nodes = part; spill = part; owner = role }
 
-pub entries-read : (pages : PageMap) (tall page : ℕ) (entries : List Entry) → tall < 20 → IsTop (form (reading_order pages) (all_pages pages)) (all_pages pages) tall page →
-    map (entry_of Table 4096 (all_pages pages)) (rows_of (tree_items (form (reading_order pages) (all_pages pages)) (all_pages pages) tall page)) ≡ entries →
-    entries_at Table 4096 pages page ≡ entries
+pub whole-lies : (part : Part) (role : Role) (place : ℕ) (bytes : List ℕ) → Stand part place bytes → Lies (whole_layout part role) role place bytes
+whole-lies part role place bytes stand = λ k within. record { node = λ _. stand k within; link = λ _. (stand k within, refl) }
+
+pub entries-read : (pages : PageMap) (role : Role) (base : ℕ) (bytes : List ℕ) (place : ℕ) (entries : List Entry) →
+    TreeReads by_rank (whole_layout (all_pages pages) role) role base bytes place entries → entries_at Table 4096 pages (number_of place) ≡ entries
 unfolding entries_at
-entries-read pages tall page entries shallow top rows =
+entries-read pages role base bytes place entries t =
     let part : Part = all_pages pages in
-    ap (λ h. map (entry_of Table 4096 part) (rows_of (tree_items (form_of Table no_order 4096 part) part h page))) (height-is (reading_order pages) part tall 20 page top shallow)
-    ∙ rows
+    let root : ℕ = number_of place in
+    ap (λ h. map (entry_of Table 4096 part) (rows_of (tree_items (form_of Table no_order 4096 part) part h root))) (height-is by_rank part t.tall 20 root t.top (omega (arith, t.shallow)))
+    ∙ ap (map (entry_of Table 4096 part)) t.rows ∙ items-entries by_rank part part t.cells ∙ t.says
 
 -- the root of a tree, where a reader finds it, and the rows under it
 pub record Found (pages : PageMap) (root : ℕ) (entries : List Entry) : Type 0 where
@@ -227,9 +313,11 @@ pub tree-found : (pages : PageMap) (base : ℕ) (rows : List (List ℕ)) → 0 <
     Stand (all_pages pages) base (tree_of base rows).bytes → Found pages (number_of (tree_of base rows).root) (row_entries 1 rows)
 tree-found pages base rows past some short stand =
     let part : Part = all_pages pages in
-    let root : ℕ = number_of (tree_of base rows).root in
-    let t : TreeReads (reading_order pages) part (tree_of base rows).root (row_entries 1 rows) = tree-reads base rows past some (reading_order pages) part short stand in
-    record { size = t.top.0.size; read = entries-read pages t.tall root (row_entries 1 rows) (omega (arith, t.shallow)) t.top t.rows }
+    let tree : TreeBytes = tree_of base rows in
+    let role : Role = tree-role base rows past some in
+    let t : TreeReads by_rank (whole_layout part role) role base tree.bytes tree.root (row_entries 1 rows) =
+    tree-reads base rows past some by_rank (whole_layout part role) short (whole-lies part role base tree.bytes stand) in
+    record { size = t.top.0.size; read = entries-read pages role base tree.bytes tree.root (row_entries 1 rows) t }
 
 pub tree-reads-back : (pages : PageMap) (base : ℕ) (rows : List (List ℕ)) → 0 < base → All (λ row. 1 < length row) rows → length (tree_of base rows).bytes < 2 ^ 50 →
     Stand (all_pages pages) base (tree_of base rows).bytes → entries_at Table 4096 pages (number_of (tree_of base rows).root) ≡ row_entries 1 rows

@@ -13,6 +13,10 @@ abbrev pub file_pages : List ℕ → PageMap
 file_pages file zero = None
 file_pages file (suc before) = if nat_le (4096 * (before + 1)) (length file) then Some (page_at file before) else None
 
+-- a fact of each page and its number, where the first stands at a place
+abbrev pub EachPage : (ℕ → List ℕ → Type 0) → ℕ → List ℕ → Type 0
+EachPage P place bytes = (k : ℕ) → 4096 * (k + 1) ≤ length bytes → P (number_of (place + k)) (page_at bytes k)
+
 -- pages stand one behind another, the first at a place
 abbrev pub Stand : Part → ℕ → List ℕ → Type 0
-Stand part place bytes = (k : ℕ) → 4096 * (k + 1) ≤ length bytes → part (number_of (place + k)) ≡ page_at bytes k
+Stand part place bytes = EachPage (λ number page. part number ≡ page) place bytes

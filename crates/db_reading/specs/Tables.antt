@@ -15,7 +15,7 @@ abbrev pub rows_at : List ℕ → ℕ → List (ℤ × Row)
 rows_at file root = map (λ (entry : Entry). (rowid_of entry.key, decode entry.payload)) (entries_at Table 4096 (file_pages file) root)
 
 -- rows with the rowids from a number on
-abbrev pub numbered : ℕ → List Row → List (ℤ × Row)
+abbrev pub numbered : {X : Type 0} → ℕ → List X → List (ℤ × X)
 numbered rowid [] = []
 numbered rowid (row ∷ rows) = (pos rowid, row) ∷ numbered (rowid + 1) rows
 
