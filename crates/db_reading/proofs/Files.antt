@@ -17,10 +17,10 @@ page-found file number before is within =
     ∙ ap (λ (page : Option (List ℕ)). unwrap_or page [])
     (cond-true (nat_le (4096 * (before + 1)) (length file)) (Some (page_at file before)) None (le-leb (4096 * (before + 1)) (length file) within))
 
-number-before : (place : ℕ) → place < 262144 → number_of place ≡ suc place
+pub number-before : (place : ℕ) → place < 262144 → number_of place ≡ suc place
 number-before place low = cond-true (nat_lt place 262144) (place + 1) (place + 2) (lt-ltb place 262144 low) ∙ (let e : place + 1 ≡ suc place = omega arith in e)
 
-number-behind : (place : ℕ) → 262144 ≤ place → number_of place ≡ suc (place + 1)
+pub number-behind : (place : ℕ) → 262144 ≤ place → number_of place ≡ suc (place + 1)
 number-behind place high = cond-false (nat_lt place 262144) (place + 1) (place + 2) (le-ltb place 262144 high) ∙ (let e : place + 2 ≡ suc (place + 1) = omega arith in e)
 
 -- a file in two parts, the page of the locks between them

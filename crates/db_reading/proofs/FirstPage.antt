@@ -26,7 +26,7 @@ first-flag : (count root : ℕ) → get_or (first_page count root) 100 0 ≡ 5
 unfolding first_page
 first-flag count root = refl
 
-first-right : (count root : ℕ) → right_child (first_page count root) 100 ≡ root
+pub first-right : (count root : ℕ) → right_child (first_page count root) 100 ≡ root
 unfolding first_page right_child
 first-right count root = four-read root
 
@@ -34,7 +34,7 @@ first-cells : (count root : ℕ) → page_cells inner_kind (first_page count roo
 unfolding first_page page_cells cell_count cell_offset
 first-cells count root = refl
 
-first-header : header_of 1 ≡ 100
+pub first-header : header_of 1 ≡ 100
 unfolding header_of
 first-header = refl
 

@@ -29,7 +29,7 @@ use Rattle.db_reading.proofs.Standing.{stand-back, stand-front, stand-next, stan
 use Rattle.db_reading.proofs.Trees.{Found, TreeReads, rows-few, rows-short, tree-found, tree-reads, tree-role, whole-lies, whole_layout}
 
 -- a page that a reader finds lies in the file
-page-within : (file : List ℕ) (number : ℕ) → length (all_pages (file_pages file) number) ≡ 4096 → 4096 * number ≤ length file
+pub page-within : (file : List ℕ) (number : ℕ) → length (all_pages (file_pages file) number) ≡ 4096 → 4096 * number ≤ length file
 page-within file zero size = omega arith
 page-within file (suc before) size =
     elim (cases_lt (length file) (4096 * (before + 1))) [
@@ -59,14 +59,14 @@ roots_of base [] = []
 roots_of base (table ∷ tables) =
     let tree = tree_of base (map record_bytes table.rows) in number_of tree.root ∷ roots_of (next_place base tree.bytes) tables
 
-listed-is : (base : ℕ) (tables : List Tabled) → listed base tables ≡ list_rows tables (roots_of base tables)
+pub listed-is : (base : ℕ) (tables : List Tabled) → listed base tables ≡ list_rows tables (roots_of base tables)
 listed-is base [] = refl
 listed-is base (table ∷ tables) =
     let tree : TreeBytes = tree_of base (map record_bytes table.rows) in
     ap (λ rows. (Text (codes "table") ∷ Text table.name ∷ Text table.name ∷ Int (pos (number_of tree.root)) ∷ Text table.sql ∷ []) ∷ rows)
     (listed-is (next_place base tree.bytes) tables)
 
-trees-whole : (base : ℕ) (tables : List Tabled) → length (trees_bytes base tables) % 4096 ≡ 0
+pub trees-whole : (base : ℕ) (tables : List Tabled) → length (trees_bytes base tables) % 4096 ≡ 0
 trees-whole base [] = refl
 trees-whole base (table ∷ tables) =
     let tree : TreeBytes = tree_of base (map record_bytes table.rows) in
@@ -74,7 +74,7 @@ trees-whole base (table ∷ tables) =
     omega (arith, length-append tree.bytes others, tree-whole base (map record_bytes table.rows), trees-whole (next_place base tree.bytes) tables)
 
 -- a row of the list of tables
-list-storable : (table : Tabled) (root : ℕ) → root < 2 ^ 63 → IsStorable (Text (codes "table") ∷ Text table.name ∷ Text table.name ∷ Int (pos root) ∷ Text table.sql ∷ [])
+pub list-storable : (table : Tabled) (root : ℕ) → root < 2 ^ 63 → IsStorable (Text (codes "table") ∷ Text table.name ∷ Text table.name ∷ Int (pos root) ∷ Text table.sql ∷ [])
 list-storable table root small =
     let fits : FitsSigned w64 (pos root) = fits_signed_from_abs w64 (pos root) small in
     record {
@@ -94,10 +94,11 @@ module _ (file : List ℕ) (short : length file < 2 ^ 50) where
   record AreHeld (base : ℕ) (tables : List Tabled) : Type 0 where
     held : AreUnder file tables (roots_of base tables)
     storable : All IsStorable (list_rows tables (roots_of base tables))
+    small : All (λ root. root < 2 ^ 63) (roots_of base tables)
 
   are-held : (base : ℕ) (tables : List Tabled) → 0 < base → All (λ (table : Tabled). All IsStorable table.rows) tables → length (trees_bytes base tables) < 2 ^ 50 →
       Stand (all_pages (file_pages file)) base (trees_bytes base tables) → AreHeld base tables
-  are-held base [] past storable small stand = record { held = tt; storable = All-nil IsStorable }
+  are-held base [] past storable small stand = record { held = tt; storable = All-nil IsStorable; small = All-nil (λ root. root < 2 ^ 63) }
   are-held base (table ∷ tables) past storable small stand =
       let pages : PageMap = file_pages file in
       let records : List (List ℕ) = map record_bytes table.rows in
@@ -112,14 +113,26 @@ module _ (file : List ℕ) (short : length file < 2 ^ 50) where
       tree-found pages base records past (records-some table.rows here) less (stand-front (all_pages pages) base tree.bytes others stand) in
       let rows : rows_at file root ≡ numbered 1 table.rows =
       ap (map (λ (entry : Entry). (rowid_of entry.key, decode entry.payload))) found.read ∙ decoded base table.rows past here less in
+      let root-small : root < 2 ^ 63 = omega (arith, page-within file root found.size, short) in
       let more : AreHeld next tables =
       are-held next tables (omega (arith, past)) (All-tail (λ (t : Tabled). All IsStorable t.rows) table tables storable) (omega (arith, longer, small))
       (stand-next (all_pages pages) base tree.bytes others (tree-whole base records) stand) in
       record {
         held = (rows, more.held);
         storable = All-cons IsStorable (Text (codes "table") ∷ Text table.name ∷ Text table.name ∷ Int (pos root) ∷ Text table.sql ∷ []) (list_rows tables (roots_of next tables))
-            (list-storable table root (omega (arith, page-within file root found.size, short))) more.storable;
+            (list-storable table root root-small) more.storable;
+        small = All-cons (λ r. r < 2 ^ 63) root (roots_of next tables) root-small more.small;
       }
+
+  -- the tables are held, and their roots are those of their trees
+  pub record AreRead (tables : List Tabled) : Type 0 where
+    pub holds : HoldsTables file tables
+    pub roots-are : holds.roots ≡ roots_of 1 tables
+    pub first : List ℕ
+    pub count : ℕ
+    pub leads : all_pages (file_pages file) 1 ≡ first_page count (number_of (tree_of (next_place 1 (trees_bytes 1 tables)) (map record_bytes (listed 1 tables))).root)
+    pub storable : All IsStorable (listed 1 tables)
+    pub roots-small : All (λ root. root < 2 ^ 63) (roots_of 1 tables)
 
   -- a first page, trees and the list of tables behind them
   file-holds : (tables : List Tabled) (count : ℕ) → All (λ (table : Tabled). All IsStorable table.rows) tables →
@@ -127,7 +140,7 @@ module _ (file : List ℕ) (short : length file < 2 ^ 50) where
       list ≡ (tree_of (next_place 1 (trees_bytes 1 tables)) (map record_bytes (listed 1 tables))).bytes →
       place ≡ (tree_of (next_place 1 (trees_bytes 1 tables)) (map record_bytes (listed 1 tables))).root →
       length (first ++ (trees_bytes 1 tables ++ list)) < 2 ^ 50 →
-      Stand (all_pages (file_pages file)) 0 (first ++ (trees_bytes 1 tables ++ list)) → HoldsTables file tables
+      Stand (all_pages (file_pages file)) 0 (first ++ (trees_bytes 1 tables ++ list)) → AreRead tables
   file-holds tables count storable first list place is-first is-list is-place small stand =
       let pages : PageMap = file_pages file in
       let trees : List ℕ = trees_bytes 1 tables in
@@ -150,7 +163,7 @@ module _ (file : List ℕ) (short : length file < 2 ^ 50) where
       let reads : TreeReads by_rank (whole_layout (all_pages pages) role) role base bytes (tree_of base records).root (row_entries 1 records) =
       tree-reads base records past (records-some (listed 1 tables) are) by_rank (whole_layout (all_pages pages) role) less
       (whole-lies (all_pages pages) role base bytes (subst (Stand (all_pages pages) base) is-list last)) in
-      record {
+      let holds : HoldsTables file tables = record {
         roots = roots;
         listed = ap (map (λ (entry : Entry). (rowid_of entry.key, decode entry.payload)))
             (first-reads pages role base bytes count place (row_entries 1 records) here
@@ -158,15 +171,27 @@ module _ (file : List ℕ) (short : length file < 2 ^ 50) where
             ∙ decoded base (listed 1 tables) past are less
             ∙ ap (numbered 1) same;
         held = held.held;
-      }
+      } in
+      record { holds = holds; roots-are = refl; first = first; count = count; leads = here ∙ ap (λ p. first_page count (number_of p)) is-place; storable = are; roots-small = held.small }
+
+-- the file before the page of the locks is put into it
+abbrev pub image_bytes : List Tabled → List ℕ
+image_bytes tables =
+    let base = next_place 1 (trees_bytes 1 tables) in
+    let list = tree_of base (map record_bytes (listed 1 tables)) in
+    first_page (number_of (next_place base list.bytes - 1)) (number_of list.root) ++ (trees_bytes 1 tables ++ list.bytes)
+
+pub image-is : (tables : List Tabled) → image tables ≡ with_lock_page (image_bytes tables)
+unfolding image_over
+image-is tables = refl
+
+pub image-read : (tables : List Tabled) → All (λ (table : Tabled). All IsStorable table.rows) tables → (short : length (image tables) < 2 ^ 50) → AreRead (image tables) short tables
+image-read tables storable short =
+    let list : TreeBytes = tree_of (next_place 1 (trees_bytes 1 tables)) (map record_bytes (listed 1 tables)) in
+    let count : ℕ = number_of (next_place (next_place 1 (trees_bytes 1 tables)) list.bytes - 1) in
+    let small : length (image_bytes tables) < 2 ^ 50 = omega (arith, file-longer (image_bytes tables), ap length (image-is tables), short) in
+    file-holds (image tables) short tables count storable (first_page count (number_of list.root)) list.bytes list.root refl refl refl small
+    (subst (λ file. Stand (all_pages (file_pages file)) 0 (image_bytes tables)) (sym (image-is tables)) (file-stands (image_bytes tables)))
 
 pub image-holds : (tables : List Tabled) → All (λ (table : Tabled). All IsStorable table.rows) tables → length (image tables) < 2 ^ 50 → HoldsTables (image tables) tables
-unfolding image_over
-image-holds tables storable short =
-    let trees : List ℕ = trees_bytes 1 tables in
-    let base : ℕ = next_place 1 trees in
-    let list : TreeBytes = tree_of base (map record_bytes (listed 1 tables)) in
-    let count : ℕ = number_of (next_place base list.bytes - 1) in
-    let bytes : List ℕ = first_page count (number_of list.root) ++ (trees ++ list.bytes) in
-    file-holds (image tables) short tables count storable (first_page count (number_of list.root)) list.bytes list.root refl refl refl
-    (omega (arith, file-longer bytes, short)) (file-stands bytes)
+image-holds tables storable short = (image-read tables storable short).holds

@@ -13,3 +13,6 @@ pub mod FirstPage
 pub mod Images
 pub mod Roles
 pub mod Rising
+pub mod Layouts
+pub mod WholeTables
+pub mod WholeImages

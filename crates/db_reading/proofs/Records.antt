@@ -19,7 +19,7 @@ use Rattle.db_pages.proofs.Sizes.{varint-short}
 use Rattle.db_reading.specs.Entries.{row_entries, row_entry}
 use Rattle.db_reading.specs.Tables.{IsStorable, numbered}
 
-types-most : (row : Row) → length (flat_map type_bytes row) ≤ 8 * length row
+pub types-most : (row : Row) → length (flat_map type_bytes row) ≤ 8 * length row
 types-most [] = omega arith
 types-most (value ∷ row) = omega (arith, length-append (type_bytes value) (flat_map type_bytes row), varint-short (serial_of value), types-most row)
 
@@ -34,7 +34,7 @@ record-decoded : (row : Row) → IsStorable row → length (record_bytes row) < 
 record-decoded row storable short =
     record-reads-back row storable.writable (omega (arith, types-most row, storable.few)) short
 
-rowid-is : (rowid : ℕ) → rowid < 2 ^ 63 → rowid_of (flip_sign rowid) ≡ pos rowid
+pub rowid-is : (rowid : ℕ) → rowid < 2 ^ 63 → rowid_of (flip_sign rowid) ≡ pos rowid
 rowid-is rowid small =
     ap (λ n. to_z w64 n) (flip_sign-flip_sign rowid (omega (arith, small))) ∙ to_z_pos w64 rowid small
 

@@ -19,6 +19,7 @@ use Rattle.db_pages.specs.Numbers.{four_bytes, number_of}
 use Rattle.db_reading.specs.Entries.{row_entries}
 use Rattle.db_reading.specs.Pages.{Stand}
 use Rattle.db_reading.specs.Tables.{HoldsTables, IsStorable}
+use Rattle.db_reading.specs.Whole.{IsAllowed, IsWholeDatabase}
 
 -- a page above others of a table
 abbrev pub inner_kind : Kind
@@ -57,3 +58,9 @@ TreeReadsBack =
 abbrev pub ImageReadsBack : Type 0
 ImageReadsBack =
     (tables : List Tabled) → All (λ (table : Tabled). All IsStorable table.rows) tables → length (image tables) < 2 ^ 50 → HoldsTables (image tables) tables
+
+-- and its trees are whole: of equal height, with rowids that rise, and no page twice or lost
+abbrev pub ImageIsWhole : Type 0
+ImageIsWhole =
+    (tables : List Tabled) → All (λ (table : Tabled). All IsStorable table.rows) tables → All IsAllowed tables → length (image tables) < 2 ^ 50 →
+    IsWholeDatabase (image tables) tables

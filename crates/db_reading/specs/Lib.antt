@@ -1,4 +1,5 @@
 pub mod Pages
 pub mod Entries
 pub mod Tables
+pub mod Whole
 pub mod Laws

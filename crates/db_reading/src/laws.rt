@@ -1,5 +1,5 @@
 //! Laws over the definitions: what is written reads back.
-ghost use Rattle.db_reading.specs.Laws.{ChainReadsBack, DividerReadsBack, ImageReadsBack, PageReadsBack, TreeReadsBack};
+ghost use Rattle.db_reading.specs.Laws.{ChainReadsBack, DividerReadsBack, ImageIsWhole, ImageReadsBack, PageReadsBack, TreeReadsBack};
 
 /// A cell of a page above others names one of them and the last rowid under it.
 pub fn divider_reads_back()
@@ -24,4 +24,10 @@ pub fn tree_reads_back()
 /// A reader that begins at the first page finds the list of tables, and under each root that it names the rows of that table.
 pub fn image_reads_back()
     ensures { ImageReadsBack }
+{}
+
+/// Where no record is longer than SQLite allows, each tree is what the kit's `IsTable` says: its leaves have one height, its
+/// rowids rise, and each page of the file but the first and that of the locks is in one of them, once.
+pub fn image_is_whole()
+    ensures { ImageIsWhole }
 {}
