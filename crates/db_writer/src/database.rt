@@ -1,5 +1,5 @@
 // A whole database.
-ghost use Rattle.std.specs.Prelude.{◌≡◌, ◌≤◌, length, All, IfOk, OnOk};
+ghost use Rattle.std.specs.Prelude.{◌≡◌, ◌<◌, ◌≤◌, ◌^◌, length, All, IfOk, OnOk};
 ghost use Rattle.csv_writer.specs.Writable.{IsWritableRow};
 ghost use Rattle.db_pages.specs.Grown.{closed, grown, tree_over};
 ghost use Rattle.db_pages.specs.Image.{with_table};
@@ -128,7 +128,8 @@ pub fn write_database<R: Threads + Sync>(
     requires names { length sniffed.now.names ≡ length sniffed.now.types }
     requires threads { (1 ≤ threads) × (threads ≤ 64) }
     requires writable { All IsWritableRow rows.now.rows }
-    ensures { IfOk result (λ text. text ≡ database table.now sniffed.now rows.now.rows files.now) }
+    ensures value { IfOk result (λ text. text ≡ database table.now sniffed.now rows.now.rows files.now) }
+    ensures few { IfOk result (λ text. length text < 2 ^ 44) }
 {
     tables_follow();
     let mut image = Image::new(alloc);

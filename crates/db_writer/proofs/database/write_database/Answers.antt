@@ -13,4 +13,7 @@ returns g c =
     let errors : Tabled = errors_table c.args.files.now in
     let all = c.in_ok-push_errors_table.ensures.ok
     ∙ ap (λ (i : Imaged). with_tabled i errors) (c.in_ok-push_scans_table.ensures.ok ∙ ap (λ (i : Imaged). with_tabled i scans) (c.in_ok-push_rows_table.ensures.ok ∙ ap (λ (i : Imaged). with_tabled i rows) c.new-image.ensures)) in
-    subst (λ (i : List ℕ). IfOk c.finish.result (λ text. text ≡ i)) (three-tables c.tables_follow.ensures rows scans errors c.push_errors_table.new.image all) c.finish.ensures
+    record {
+      value = subst (λ (i : List ℕ). IfOk c.finish.result (λ text. text ≡ i)) (three-tables c.tables_follow.ensures rows scans errors c.push_errors_table.new.image all) c.finish.ensures.value;
+      few = c.finish.ensures.few;
+    }
