@@ -16,3 +16,4 @@ pub mod Rising
 pub mod Layouts
 pub mod WholeTables
 pub mod WholeImages
+pub mod Databases

@@ -3,3 +3,4 @@ pub mod Entries
 pub mod Tables
 pub mod Whole
 pub mod Laws
+pub mod Database

@@ -1,4 +1,5 @@
 //! Laws over the definitions: what is written reads back.
+ghost use Rattle.db_reading.specs.Database.{DatabaseHoldsTable, DatabaseIsWhole};
 ghost use Rattle.db_reading.specs.Laws.{ChainReadsBack, DividerReadsBack, ImageIsWhole, ImageReadsBack, PageReadsBack, TreeReadsBack};
 
 /// A cell of a page above others names one of them and the last rowid under it.
@@ -30,4 +31,15 @@ pub fn image_reads_back()
 /// rowids rise, and each page of the file but the first and that of the locks is in one of them, once.
 pub fn image_is_whole()
     ensures { ImageIsWhole }
+{}
+
+/// Of the database that `write_database` writes, a reader finds the rows of the table under the first root, the scans under the
+/// second and the rejects under the third, each with its rowid from 1 on.
+pub fn database_holds_table()
+    ensures { DatabaseHoldsTable }
+{}
+
+/// And the database is whole.
+pub fn database_is_whole()
+    ensures { DatabaseIsWhole }
 {}
