@@ -9,5 +9,4 @@ pub mod JoiningLaws
 pub mod WindowRanges
 pub mod SlotsLaws
 pub mod AnswerLaws
-pub mod CountLaws
 pub mod LoadLaws

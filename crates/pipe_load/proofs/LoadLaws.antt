@@ -13,7 +13,7 @@ use Rattle.range_guess.specs.Cut.{range_count}
 use Rattle.range_scan.specs.declared.context.Context.{Context}
 use Rattle.range_scan.specs.Joined.{IsJoinedPart, IsBegun}
 use Rattle.range_scan.specs.Part.{Part}
-use Rattle.range_scan.proofs.RangeLaws.{count_covers}
+use Rattle.range_guess.proofs.CutLaws.{count_covers, count_less, count_at_most}
 use Rattle.value_types.specs.Datum.{Datum}
 use Rattle.reject_book.specs.declared.reject.Reject.{Reject}
 use Rattle.pipe_load.specs.declared.joining.Counted.{Counted}
@@ -22,10 +22,9 @@ use Rattle.pipe_load.specs.declared.window.Window.{Window}
 use Rattle.pipe_load.specs.Joining.{AddsRanges, IsJoinedTo, stretch_len}
 use Rattle.pipe_load.specs.Loading.{data_read}
 use Rattle.window_load.specs.DataRead.{IsDataRead}
-use Rattle.window_load.proofs.RangeSteps.{begun, all_ranges}
+use Rattle.range_scan.proofs.RangeSteps.{begun, all_ranges}
 use Rattle.pipe_load.specs.Layout.{IsLayout, stride, want, window_start, window_of, windows_of, stretch_of, layout_of}
 use Rattle.pipe_load.specs.PassViews.{IsOneOf}
-use Rattle.pipe_load.proofs.CountLaws.{count_less, count_at_most}
 use Rattle.pipe_load.proofs.CuttingLaws.{some_stride}
 use Rattle.pipe_load.proofs.WindowRanges.{lead_at}
 

@@ -5,28 +5,29 @@ use Rattle.std.proofs.lemmas.List.Elements.{All-append, All-nil}
 use Rattle.std.proofs.lemmas.List.FromFn.{map-range_with_len_more, length-map-range_with_len}
 use Rattle.quote_automaton.specs.declared.state.State.{State}
 use Rattle.range_scan.specs.declared.context.Context.{Context}
-use Rattle.range_scan.specs.declared.span.Span.{Span}
+use Rattle.range_guess.specs.declared.span.Span.{Span}
+use Rattle.range_guess.specs.declared.stretch.Stretch.{Stretch}
+use Rattle.range_guess.specs.Stretch.{span_of}
 use Rattle.range_scan.specs.Scanned.{Scanned, scanned}
 use Rattle.crossbeam_queue.specs.Passes.{view}
 use Rattle.pipe_load.specs.declared.layout.Layout.{Layout}
-use Rattle.pipe_load.specs.declared.layout.Stretch.{Stretch}
 use Rattle.pipe_load.specs.declared.scanner.Kept.{Kept}
 use Rattle.pipe_load.specs.declared.stage.Stage.{Stage}
 use Rattle.pipe_load.specs.declared.window.Window.{Window}
-use Rattle.pipe_load.specs.Layout.{stretch_of, span_of}
+use Rattle.pipe_load.specs.Layout.{base_of, stretch_of}
 use Rattle.pipe_load.specs.PassViews.{stage_view}
 use Rattle.pipe_load.specs.Scanning.{opening_of, guessed_part, guessed_parts, HasParts, HasScanned}
 use Rattle.pipe_load.proofs.Lists.{just}
 
 module _ (context : Context) (l : Layout) (w : Window) where
-  pub one_more_part : (n : ℕ) (parts new : List Scanned) (part : Scanned) (bytes : List ℕ) (s : Stretch) (span : Span) (opened : State) →
-      parts ≡ guessed_parts context l w n → new ≡ parts ++ part ∷ [] → part ≡ scanned context bytes s.base span opened →
-      bytes ≡ w.bytes → s ≡ stretch_of l w → span ≡ span_of s n → opened ≡ opening_of context.dialect bytes span →
+  pub one_more_part : (n : ℕ) (parts new : List Scanned) (part : Scanned) (bytes : List ℕ) (base : ℕ) (s : Stretch) (span : Span) (opened : State) →
+      parts ≡ guessed_parts context l w n → new ≡ parts ++ part ∷ [] → part ≡ scanned context bytes base span opened →
+      bytes ≡ w.bytes → base ≡ base_of l w → s ≡ stretch_of l w → span ≡ span_of s n → opened ≡ opening_of context.dialect bytes span →
       new ≡ guessed_parts context l w (n + 1)
-  one_more_part n parts new part bytes s span opened parts_are new_is part_is bytes_are s_is span_is opened_is =
+  one_more_part n parts new part bytes base s span opened parts_are new_is part_is bytes_are base_is s_is span_is opened_is =
       let at : span ≡ span_of (stretch_of l w) n = span_is ∙ ap (λ (x : Stretch). span_of x n) s_is in
       let in_state : opened ≡ opening_of context.dialect w.bytes (span_of (stretch_of l w) n) = opened_is ∙ (λ i. opening_of context.dialect (bytes_are i) (at i)) in
-      let is : part ≡ guessed_part context l w n = part_is ∙ (λ i. scanned context (bytes_are i) ((s_is i).base) (at i) (in_state i)) in
+      let is : part ≡ guessed_part context l w n = part_is ∙ (λ i. scanned context (bytes_are i) (base_is i) (at i) (in_state i)) in
       new_is ∙ (λ i. parts_are i ++ is i ∷ []) ∙ sym (map-range_with_len_more (guessed_part context l w) 0 n n (let e : 0 + n ≡ n = omega arith in e))
 
   -- so many parts as there are

@@ -10,24 +10,24 @@ use native.Mathlib.Decide.{dec_le}
 use Rattle.byte_classes.proofs.LineEndLaws.{last_or-append, last_or-some}
 use Rattle.quote_automaton.specs.declared.state.State.{State}
 use Rattle.quote_automaton.specs.declared.state.State.TheVariants.{RowStart}
-use Rattle.range_guess.specs.Cut.{group_len}
 use Rattle.range_guess.specs.Guess.{guess}
 use Rattle.byte_classes.specs.Places.{byte_before}
 use Rattle.range_guess.specs.Rescans.{range_bytes}
+use Rattle.range_guess.specs.Span.{guess_of}
+use Rattle.range_guess.specs.Stretch.{span_of}
 use Rattle.range_guess.proofs.CutLaws.{count_before}
 use Rattle.range_scan.specs.declared.context.Context.{Context}
-use Rattle.range_scan.specs.declared.span.Span.{Span}
+use Rattle.range_guess.specs.declared.span.Span.{Span}
+use Rattle.range_guess.specs.declared.stretch.Stretch.{Stretch}
 use Rattle.range_scan.specs.Part.{part_of}
+use Rattle.range_scan.specs.Ranges.{ranges_end}
 use Rattle.range_scan.specs.Scanned.{Scanned, judge_in, span_part}
 use Rattle.range_scan.proofs.JudgeLaws.{first_bytes_decide}
 use Rattle.pipe_load.specs.declared.joining.Counted.{Counted}
 use Rattle.pipe_load.specs.declared.layout.Layout.{Layout}
-use Rattle.pipe_load.specs.declared.layout.Stretch.{Stretch}
 use Rattle.pipe_load.specs.declared.window.Window.{Window}
-use Rattle.window_load.specs.Ranges.{ranges_end}
 use Rattle.pipe_load.specs.Joining.{AddsRange, AddsRanges, IsJoinedTo, stretch_len}
-use Rattle.pipe_load.specs.Layout.{IsLayout, stride, want, window_start, window_of, stretch_of, span_of}
-use Rattle.pipe_load.specs.Scanning.{opening_of}
+use Rattle.pipe_load.specs.Layout.{IsLayout, stride, want, window_start, window_of, base_of, stretch_of}
 use Rattle.pipe_load.proofs.CuttingLaws.{drop-drop, some_stride}
 use Rattle.pipe_load.proofs.JoiningLaws.{next_range}
 use Rattle.pipe_load.proofs.WindowParts.{begins, ends, ordered, within, reaches, in_text}
@@ -189,7 +189,7 @@ module _ (context : Context) (l : Layout) (layout : IsLayout l) (text : List ℕ
   start_inside : start ≤ length text
   start_inside = let p = at in let q = inside in omega (arith, p, q)
 
-  pub part_is : (o : State) → span_part context w.bytes st.base span o ≡ part_of (judge_in context) context.dialect text l.data_start (ranges_end text z j) (ranges_end text z (j + 1)) o
+  pub part_is : (o : State) → span_part context w.bytes (base_of l w) span o ≡ part_of (judge_in context) context.dialect text l.data_start (ranges_end text z j) (ranges_end text z (j + 1)) o
   part_is o =
       in_text (judge_in context) context.schema.max_line_size (first_bytes_decide context.dialect context.schema context.scan_id context.file_id) context.dialect text l.data_start start (want l k) span.from span.to o
       start_inside from_to to_within led reached
@@ -212,28 +212,23 @@ module _ (context : Context) (l : Layout) (layout : IsLayout l) (text : List ℕ
       let from_place : start + span.from ≡ j * z = begins_at ∙ sym place in
       before_within text start (want l k) span.from few here led ∙ ap (byte_before text) from_place
 
-  pub guess_is : (j % group_len == 0) ≡ false → opening_of context.dialect w.bytes span ≡ guess context.dialect (range_bytes text z j) (byte_before text (j * z))
-  guess_is later = by_test (j == 0) refl ∙ (λ i. guess context.dialect (bytes_are i) (byte_is i))
-    where
-      by_test : (c : Bool) → (j == 0) ≡ c → cond c RowStart (guess context.dialect (slice_range w.bytes span.from span.to) (byte_before w.bytes span.from)) ≡ guess context.dialect (slice_range w.bytes span.from span.to) (byte_before w.bytes span.from)
-      by_test false e = refl
-      by_test true e = let none : j ≡ 0 = eqb-true j 0 e in
-          let first : (j % group_len == 0) ≡ true = ap (λ m. m % group_len == 0) none in absurd (let never : true ≡ false = sym first ∙ later in cc)
+  pub guess_is : guess_of context.dialect w.bytes span ≡ guess context.dialect (range_bytes text z j) (byte_before text (j * z))
+  guess_is = λ i. guess context.dialect (bytes_are i) (byte_is i)
 
-  pub next_of_window : (old new : Counted) → IsJoinedTo context text l.data_start z j old → AddsRange context w.bytes st.base span old new → IsJoinedTo context text l.data_start z (j + 1) new
-  next_of_window old new h adds = next_range context text l.data_start z j in_data w.bytes st.base span part_is width_is guess_is old new h adds
+  pub next_of_window : (old new : Counted) → IsJoinedTo context text l.data_start z j old → AddsRange context w.bytes (base_of l w) span old new → IsJoinedTo context text l.data_start z (j + 1) new
+  next_of_window old new h adds = next_range context text l.data_start z j in_data w.bytes (base_of l w) span part_is width_is refl guess_is old new h adds
 
 -- one range more of a window
 pub adds_more : (context : Context) (l : Layout) (w : Window) (n : ℕ) (old mid new : Counted) → IsLayout l → n < stretch_len l w →
-    AddsRanges context l w n old mid → AddsRange context w.bytes (stretch_of l w).base (span_of (stretch_of l w) n) mid new → AddsRanges context l w (n + 1) old new
+    AddsRanges context l w n old mid → AddsRange context w.bytes (base_of l w) (span_of (stretch_of l w) n) mid new → AddsRanges context l w (n + 1) old new
 adds_more context l w n old mid new layout below h adds = record {
   types = adds.joins.adds.types ∙ h.types;
   keep = ap (λ b. b.keep) adds.joins.adds.book ∙ h.keep;
   joins = λ text k is begins reach before.
       let same : k * l.ranges + n + 1 ≡ k * l.ranges + (n + 1) = omega arith in
       let under : n < stretch_len l (window_of l text k) = subst (λ (x : Window). n < stretch_len l x) is below in
-      let added : AddsRange context (window_of l text k).bytes (stretch_of l (window_of l text k)).base (span_of (stretch_of l (window_of l text k)) n) mid new =
-      subst (λ (x : Window). AddsRange context x.bytes (stretch_of l x).base (span_of (stretch_of l x) n) mid new) is adds in
+      let added : AddsRange context (window_of l text k).bytes (base_of l (window_of l text k)) (span_of (stretch_of l (window_of l text k)) n) mid new =
+      subst (λ (x : Window). AddsRange context x.bytes (base_of l x) (span_of (stretch_of l x) n) mid new) is adds in
       subst (λ j. IsJoinedTo context text l.data_start l.range_size j new) same
       (next_of_window context l layout text k n begins reach under mid new (h.joins text k is begins reach before) added);
 }

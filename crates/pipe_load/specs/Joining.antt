@@ -1,28 +1,23 @@
 -- What is joined so far: the ranges of the data up to a place, each in its true state (Ge et al. 2019).
-use Rattle.std.specs.Prelude.{◌≡◌, ℕ, ◌+◌, ◌-◌, ◌*◌, ◌%◌, ◌<◌, Bool, not, ◌&&◌, ◌==◌, map, List, length}
+use Rattle.std.specs.Prelude.{◌≡◌, ℕ, ◌+◌, ◌-◌, ◌*◌, ◌<◌, map, List, length}
 use Rattle.std.specs.List.{range_with_len}
-use Rattle.quote_automaton.specs.declared.state.State.{State}
-use Rattle.quote_automaton.specs.Automaton.{same_state}
-use Rattle.range_guess.specs.Cut.{group_len}
+use Rattle.range_guess.specs.declared.span.Span.{Span}
+use Rattle.range_guess.specs.Span.{opening_in}
+use Rattle.range_guess.specs.Stretch.{stretch_count}
 use Rattle.range_scan.specs.declared.context.Context.{Context}
-use Rattle.range_scan.specs.declared.span.Span.{Span}
+use Rattle.range_scan.specs.Ranges.{AddsSpan, IsJoinedTo as AreJoined, ranges_end}
 use Rattle.range_scan.specs.Scanned.{Scanned}
-use Rattle.window_load.specs.Ranges.{AddsRange as JoinsRange, IsJoinedTo as AreJoined, ranges_end}
 use Rattle.pipe_load.specs.declared.joining.Counted.{Counted}
 use Rattle.pipe_load.specs.declared.layout.Layout.{Layout}
 use Rattle.pipe_load.specs.declared.window.Window.{Window}
-use Rattle.pipe_load.specs.Layout.{stretch_of, stretch_count, window_of}
-use Rattle.pipe_load.specs.Scanning.{opening_of, guessed_part}
+use Rattle.pipe_load.specs.Layout.{stretch_of, window_of}
+use Rattle.pipe_load.specs.Scanning.{guessed_part}
 
 -- ---- one range
 
--- whether the next range counts as scanned again: it isn't the first of its group, and was opened in another state than the true one
-abbrev pub is_again : Counted → State → Bool
-is_again old opened = not (old.ranges % group_len == 0) && not (same_state opened old.joined.end)
-
 -- a range of a window is joined in the state in which the one before it ends, and counted
 pub record AddsRange (context : Context) (bytes : List ℕ) (base : ℕ) (span : Span) (old new : Counted) : Type 0 where
-  pub joins : JoinsRange context bytes base span (is_again old (opening_of context.dialect bytes span)) old.joined new.joined
+  pub joins : AddsSpan context bytes base span (opening_in context.dialect bytes span old.joined.end) old.joined new.joined
   pub ranges : new.ranges ≡ old.ranges + 1
   pub more : new.length ≡ old.length + (span.to - span.from)
 

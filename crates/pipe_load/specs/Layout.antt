@@ -1,12 +1,12 @@
--- How windows lie in the data, and ranges in a window.
+-- How windows lie in the data, and their ranges in them.
 use Rattle.std.specs.Prelude.{ℕ, ◌+◌, ◌-◌, ◌*◌, ◌/◌, ◌<◌, ◌≤◌, ◌^◌, min, List, length, map, slice_range}
 use Rattle.std.specs.List.{range_with_len}
 use Rattle.load_options.specs.declared.limits.TheConstants.{RANGE_SIZE}
-use Rattle.range_guess.specs.Cut.{range_count, range_bounds}
-use Rattle.range_scan.specs.declared.span.Span.{Span}
+use Rattle.range_guess.specs.declared.stretch.Stretch.{Stretch}
+use Rattle.range_guess.specs.Cut.{range_count}
+use Rattle.range_guess.specs.Stretch.{LiesIn}
 use Rattle.pipe_load.specs.declared.layout.Layout.{Layout}
 use Rattle.pipe_load.specs.declared.layout.TheConstants.{LEAST_RANGES}
-use Rattle.pipe_load.specs.declared.layout.Stretch.{Stretch}
 use Rattle.pipe_load.specs.declared.window.Window.{Window}
 
 -- windows cover a few ranges and as many more as go into two rows of the most bytes, and reach one byte further than a row may past them
@@ -51,31 +51,21 @@ windows_of l text n = map (window_of l text) (range_with_len 0 n)
 abbrev pub window_count : Layout → ℕ → ℕ
 window_count l text_length = range_count text_length (stride l)
 
--- the ranges of a window, and where they lie in it
+-- the place of a window's first byte in the input
+abbrev pub base_of : Layout → Window → ℕ
+base_of l w = l.data_start + window_start l w.number
+
+-- the ranges of a window
 abbrev pub stretch_of : Layout → Window → Stretch
 stretch_of l w = let from = min (length w.bytes) (min w.number 1) in record {
-  base = l.data_start + window_start l w.number;
   first_range = w.number * l.ranges;
   from = from;
   to = from + min (stride l) (length w.bytes - from);
   range_size = l.range_size;
 }
 
-abbrev pub stretch_count : Stretch → ℕ
-stretch_count s = range_count (s.to - s.from) s.range_size
-
--- range i of a stretch
-abbrev pub span_of : Stretch → ℕ → Span
-span_of s i = record {
-  number = s.first_range + i;
-  from = s.from + (range_bounds (s.to - s.from) s.range_size i).0;
-  to = s.from + (range_bounds (s.to - s.from) s.range_size i).1;
-}
-
--- a stretch lies in the bytes of a window, and its numbers are small
-pub record IsStretchOf (s : Stretch) (bytes : List ℕ) : Type 0 where
-  pub some : 0 < s.range_size
-  pub ordered : s.from ≤ s.to
-  pub within : s.to ≤ length bytes
-  pub room : s.base + length bytes < 2 ^ 62
+-- a stretch lies in the bytes of a window, whose first stands at a place of the input, and its numbers are small
+pub record IsStretchOf (base : ℕ) (s : Stretch) (bytes : List ℕ) : Type 0 where
+  pub lies : LiesIn s bytes
+  pub room : base + length bytes < 2 ^ 62
   pub numbers : s.first_range < 2 ^ 61

@@ -4,17 +4,18 @@ use Rattle.std.specs.List.{range_with_len}
 use Rattle.byte_classes.specs.Dialect.{Marks}
 use Rattle.quote_automaton.specs.declared.state.State.{State}
 use Rattle.quote_automaton.specs.declared.state.State.TheVariants.{RowStart}
+use Rattle.range_guess.specs.declared.span.Span.{Span}
+use Rattle.range_guess.specs.Span.{guess_of}
+use Rattle.range_guess.specs.Stretch.{span_of}
 use Rattle.range_scan.specs.declared.context.Context.{Context}
-use Rattle.range_scan.specs.declared.span.Span.{Span}
 use Rattle.range_scan.specs.Scanned.{Scanned, scanned}
 use Rattle.crossbeam_queue.specs.Passes.{view, IsPassOf}
-use Rattle.window_load.specs.Ranges.{guess_of}
 use Rattle.pipe_load.specs.declared.layout.Layout.{Layout}
 use Rattle.pipe_load.specs.declared.scanner.Kept.{Kept}
 use Rattle.pipe_load.specs.declared.stage.Stage.{Stage}
 use Rattle.pipe_load.specs.declared.window.Window.{Window}
 use Rattle.pipe_load.specs.declared.windows.Windows.{Windows}
-use Rattle.pipe_load.specs.Layout.{stretch_of, span_of}
+use Rattle.pipe_load.specs.Layout.{base_of, stretch_of}
 
 -- the state in which a range is scanned first: the data's first range opens where a row begins, any other in its guess
 abbrev pub opening_of : Marks → List ℕ → Span → State
@@ -22,7 +23,7 @@ opening_of d bytes span = if span.number == 0 then RowStart else guess_of d byte
 
 -- range i of a window, scanned in that state, and the first n ranges
 abbrev pub guessed_part : Context → Layout → Window → ℕ → Scanned
-guessed_part context l w i = let s = stretch_of l w in scanned context w.bytes s.base (span_of s i) (opening_of context.dialect w.bytes (span_of s i))
+guessed_part context l w i = let span = span_of (stretch_of l w) i in scanned context w.bytes (base_of l w) span (opening_of context.dialect w.bytes span)
 
 abbrev pub guessed_parts : Context → Layout → Window → ℕ → List Scanned
 guessed_parts context l w n = map (guessed_part context l w) (range_with_len 0 n)

@@ -43,9 +43,9 @@ fn read_beside_stages<R: Threads + Wait + Sync, S: Source + Send, G: Gate>(
     requires many { length stages.old ≤ 64 }
     requires small { length reader.old.head.now + reader.old.room < 2 ^ 34 }
     requires stages { All (IsStage windows.now) stages.old }
-    requires all { All (HasScanned scanner.now.context.now scanner.now.layout) stages.old }
+    requires all { All (HasScanned scanner.now.ranges.context.now scanner.now.layout) stages.old }
     ensures stages { All (IsStage windows.now) stages.new }
-    ensures all { All (λ stage. stage.short ≡ false → HasScanned scanner.now.context.now scanner.now.layout stage) stages.new }
+    ensures all { All (λ stage. stage.short ≡ false → HasScanned scanner.now.ranges.context.now scanner.now.layout stage) stages.new }
     ensures pass { IsCallers windows.now feed.new.pass }
     // Whatever the answer, all windows were put and all end marks, or the queue was full at a moment.
     ensures fed { IsFed (length stages.old) feed.new }
@@ -64,10 +64,10 @@ fn read_beside_stages<R: Threads + Wait + Sync, S: Source + Send, G: Gate>(
     let ((), read) = thread::join_mut(
         rt,
         &mut ||
-            requires { (0 < length stages.now) × All (IsStage windows.now) stages.now × All (HasScanned scanner.now.context.now scanner.now.layout) stages.now }
+            requires { (0 < length stages.now) × All (IsStage windows.now) stages.now × All (HasScanned scanner.now.ranges.context.now scanner.now.layout) stages.now }
             ensures { ((k : ℕ) (d : _) → k < length stages.entry.now → IsStage windows.entry.now (slice_index_or stages.exit.now k d))
                 × ((k : ℕ) (d : _) → k < length stages.entry.now → (slice_index_or stages.exit.now k d).short ≡ false
-                → HasScanned scanner.entry.now.context.now scanner.entry.now.layout (slice_index_or stages.exit.now k d)) }
+                → HasScanned scanner.entry.now.ranges.context.now scanner.entry.now.layout (slice_index_or stages.exit.now k d)) }
         { work_all(rt, windows, scanner, stages) },
         &mut || { feed.put_data(rt, alloc, windows, reader, source, count) },
     );
@@ -94,9 +94,9 @@ pub fn read_beside<R: Threads + Wait + Sync, S: Source + Send, G: Gate>(
     requires many { length stages.old.items ≤ 64 }
     requires small { length reader.old.head.now + reader.old.room < 2 ^ 34 }
     requires stages { All (IsStage windows.now) stages.old.items }
-    requires all { All (HasScanned scanner.now.context.now scanner.now.layout) stages.old.items }
+    requires all { All (HasScanned scanner.now.ranges.context.now scanner.now.layout) stages.old.items }
     ensures stages { All (IsStage windows.now) stages.new.items }
-    ensures all { All (λ stage. stage.short ≡ false → HasScanned scanner.now.context.now scanner.now.layout stage) stages.new.items }
+    ensures all { All (λ stage. stage.short ≡ false → HasScanned scanner.now.ranges.context.now scanner.now.layout stage) stages.new.items }
     ensures pass { IsCallers windows.now feed.new.pass }
     // Whatever the answer, all windows were put and all end marks, or the queue was full at a moment.
     ensures fed { IsFed (length stages.old.items) feed.new }

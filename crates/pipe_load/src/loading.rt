@@ -20,7 +20,7 @@ use crate::scanner::Scanner;
 use crate::stages::stages_of;
 use crate::windows::Windows;
 use csv_source::{Gate, Source};
-use range_scan::Context;
+use range_scan::{Context, RangeScanner};
 use std::alloc::Global;
 use std::collections::VecDeque;
 use std::sync::Wait;
@@ -36,13 +36,13 @@ fn load_windows<R: Threads + Wait + Sync, S: Source + Send, G: Gate>(
     room: u64,
     source: &mut S,
 ) -> Result<DataRead, LoadStop>
-    requires reach { HasReach scanner.now.context.now scanner.now.layout }
+    requires reach { HasReach scanner.now.ranges.context.now scanner.now.layout }
     requires threads { (1 ≤ threads) × (threads ≤ 64) }
     requires some { 0 < room }
     requires room { length head.now + room < 2 ^ 34 }
     ensures moved { Comes (S.left source.old) (S.left source.new) }
     ensures ok { IfOk result (λ read. (came : List ℕ)
-        × IsAllRead scanner.now.context.now scanner.now.layout head.now room (S.left source.old) (S.left source.new) came read) }
+        × IsAllRead scanner.now.ranges.context.now scanner.now.layout head.now room (S.left source.old) (S.left source.new) came read) }
     ensures held { S.held source.new ≡ S.held source.old }
     ensures count { S.faults source.old ≤ S.faults source.new }
     ensures failed { result ≡ Err stops.Failed → Rose (S.faults source.old) (S.faults source.new) }
@@ -50,7 +50,7 @@ fn load_windows<R: Threads + Wait + Sync, S: Source + Send, G: Gate>(
     ensures too_large { result ≡ Err stops.TooLarge
         → (came : List ℕ) × Consumes (S.left source.old) (S.left source.new) came × (length came ≡ room) }
 {
-    let alloc = scanner.alloc;
+    let alloc = scanner.ranges.alloc;
     let mut reader = Reader::new(alloc, head, scanner.layout, room);
     let (windows, mut pass) = Windows::new(alloc)?;
     let mut stages = stages_of(alloc, &windows, &mut pass, threads)?;
@@ -85,14 +85,14 @@ fn load_rest<R: Threads + Wait + Sync, S: Source + Send, G: Gate>(
     ended: bool,
     source: &mut S,
 ) -> Result<DataRead, LoadStop>
-    requires reach { HasReach scanner.now.context.now scanner.now.layout }
+    requires reach { HasReach scanner.now.ranges.context.now scanner.now.layout }
     requires threads { (1 ≤ threads) × (threads ≤ 64) }
     requires some { 0 < room }
     requires room { length head.now + room < 2 ^ 34 }
     requires at_end { ended ≡ true → IsAtEnd (S.left source.old) }
     ensures moved { Comes (S.left source.old) (S.left source.new) }
     ensures ok { IfOk result (λ read. (came : List ℕ) × (ended ≡ true → came ≡ [])
-        × IsAllRead scanner.now.context.now scanner.now.layout head.now room (S.left source.old) (S.left source.new) came read) }
+        × IsAllRead scanner.now.ranges.context.now scanner.now.layout head.now room (S.left source.old) (S.left source.new) came read) }
     ensures held { S.held source.new ≡ S.held source.old }
     ensures count { S.faults source.old ≤ S.faults source.new }
     ensures failed { result ≡ Err stops.Failed → Rose (S.faults source.old) (S.faults source.new) }
@@ -149,12 +149,12 @@ pub fn pipe_load<R: Threads + Wait + Sync, S: Source + Send, G: Gate>(
     let mut window = head;
     window.drop_front(data_start);
     let layout = layout_of(data_start as u64, range_size, context.schema.max_line_size);
-    let scanner = Scanner {
+    let ranges = RangeScanner {
         alloc,
         context,
-        layout,
         gate,
     };
+    let scanner = Scanner { ranges, layout };
     let read = load_rest(rt, &scanner, threads, window.bytes(), room, ended, source)?;
     Ok(up_to_reject(alloc, read, stop)?)
 }

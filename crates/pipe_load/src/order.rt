@@ -31,12 +31,12 @@ pub fn join_windows<R: Wait, G: Gate>(
     requires made { length (made_of feed) ≡ count }
     requires numbered { AreNumbered (made_of feed) }
     requires stages { All (IsStage windows.now) stages.items }
-    requires all { All (λ stage. stage.short ≡ false → HasScanned scanner.now.context.now scanner.now.layout stage) stages.items }
-    requires reach { scanner.now.layout.reach ≡ scanner.now.context.now.schema.max_line_size + 1 }
+    requires all { All (λ stage. stage.short ≡ false → HasScanned scanner.now.ranges.context.now scanner.now.layout stage) stages.items }
+    requires reach { scanner.now.layout.reach ≡ scanner.now.ranges.context.now.schema.max_line_size + 1 }
     // Where the windows are those of some data, all of these are joined.
     ensures { (text : List ℕ) → made_of feed ≡ windows_of scanner.now.layout text count → length text ≤ count * stride scanner.now.layout
         → (0 < count → (count - 1) * stride scanner.now.layout < length text)
-        → IfOk result (λ counted. IsJoinedTo scanner.now.context.now text scanner.now.layout.data_start scanner.now.layout.range_size
+        → IfOk result (λ counted. IsJoinedTo scanner.now.ranges.context.now text scanner.now.layout.data_start scanner.now.layout.range_size
         (range_count (length text) scanner.now.layout.range_size) counted) }
 {
     let Feed { mut pass, waiting } = feed;
@@ -46,7 +46,7 @@ pub fn join_windows<R: Wait, G: Gate>(
     }
     slots.place_stages(windows, &mut pass, stages);
     slots.place_waiting(alloc, waiting);
-    let mut counted = Counted::new(alloc, scanner.context)?;
+    let mut counted = Counted::new(alloc, scanner.ranges.context)?;
     for number in 0..count {
         let kept = slots.fetch(rt, alloc, windows, &mut pass, number);
         counted.add_window(scanner, kept)?;

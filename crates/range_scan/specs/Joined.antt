@@ -4,6 +4,7 @@ use Rattle.quote_automaton.specs.declared.state.State.{State}
 use Rattle.value_types.specs.Datum.{Datum}
 use Rattle.reject_book.specs.declared.reject.Reject.{Reject}
 use Rattle.reject_book.specs.Kept.{book_of, joined as books_joined}
+use Rattle.range_guess.specs.Rescans.{is_again}
 use Rattle.range_scan.specs.declared.context.Context.{Context}
 use Rattle.range_scan.specs.declared.joined.Joined.{Joined}
 use Rattle.range_scan.specs.Part.{Part, no_part}
@@ -42,3 +43,9 @@ pub record IsAppended (next old new : Joined) : Type 0 where
   pub line_ends : new.line_ends ≡ old.line_ends + next.line_ends
   pub rescans : new.rescans ≡ old.rescans + next.rescans
   pub rescanned : new.rescanned ≡ old.rescanned + next.rescanned
+
+-- the next range, of so many bytes, is joined by its part, and counted where it was read from another state first than the one in which it opens
+pub record AddsRange (part : Scanned) (first : State) (bytes : ℕ) (old new : Joined) : Type 0 where
+  pub next : Joined
+  pub of : IsOfRange part (is_again first old.end) bytes next
+  pub adds : IsAppended next old new

@@ -7,6 +7,7 @@ use crate::part::Part;
 use column_store::Table;
 use csv_source::NoMemory;
 use quote_automaton::State;
+use range_guess::is_again;
 use reject_book::Book;
 use std::alloc::Global;
 
@@ -27,7 +28,7 @@ pub struct Joined {
 }
 
 impl Joined {
-    ghost use Rattle.range_scan.specs.Joined.{IsBegun, IsOfRange, IsAppended};
+    ghost use Rattle.range_scan.specs.Joined.{IsBegun, IsOfRange, IsAppended, AddsRange};
 
     /// No range yet, and the first one opens in `first`.
     pub fn new(alloc: Global, context: &Context, first: State) -> Result<Joined, NoMemory>
@@ -87,5 +88,16 @@ impl Joined {
         self.rescans = sum_of(self.rescans, rescans)?;
         self.rescanned = sum_of(self.rescanned, rescanned)?;
         Ok(())
+    }
+    /// Joins the next range, of so many bytes, by its part in the state in which those before it end. It counts as scanned again
+    /// where it was read from another state first. After want of memory the join is of no use.
+    pub fn add_range(&mut self, part: Part, first: State, bytes: u64) -> Result<(), NoMemory>
+        requires opened { part.opened ≡ self.old.end }
+        requires types { self.old.table.types ≡ part.types }
+        requires same { self.old.book.keep ≡ part.book.keep }
+        ensures ok { OnOk result (AddsRange part first bytes self.old self.new) }
+    {
+        let again = is_again(first, self.end);
+        self.append(Joined::of(part, again, bytes))
     }
 }

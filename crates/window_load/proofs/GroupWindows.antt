@@ -4,7 +4,7 @@ use Rattle.std.proofs.lemmas.Bool.Decides.{leb_tells}
 use Rattle.quote_automaton.specs.declared.state.State.{State}
 use Rattle.range_guess.specs.Cut.{group_len, group_count}
 use Rattle.range_scan.specs.declared.context.Context.{Context}
-use Rattle.load_crew.specs.declared.group.Group.{Group}
+use Rattle.range_guess.specs.declared.stretch.Stretch.{Stretch as Group}
 use Rattle.load_crew.specs.declared.group_read.GroupRead.{GroupRead}
 use Rattle.load_crew.specs.Groups.{group_end, group_of}
 use Rattle.load_crew.specs.GroupRead.{IsGroupRead}

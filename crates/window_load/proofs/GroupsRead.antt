@@ -12,7 +12,7 @@ use Rattle.reject_book.specs.Kept.{raised}
 use Rattle.range_scan.specs.declared.context.Context.{Context}
 use Rattle.range_scan.specs.declared.joined.Joined.{Joined}
 use Rattle.range_scan.specs.Joined.{IsBegun, IsAppended}
-use Rattle.load_crew.specs.declared.group.Group.{Group}
+use Rattle.range_guess.specs.declared.stretch.Stretch.{Stretch as Group}
 use Rattle.load_crew.specs.declared.group_read.GroupRead.{GroupRead}
 use Rattle.load_crew.specs.GroupRead.{IsGroupRead}
 use Rattle.load_crew.specs.Groups.{group_of}

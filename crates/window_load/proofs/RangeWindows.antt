@@ -8,16 +8,17 @@ use Rattle.quote_automaton.specs.declared.state.State.{State}
 use Rattle.range_guess.specs.Cut.{range_count}
 use Rattle.range_guess.specs.Guess.{guess}
 use Rattle.range_guess.specs.Rescans.{range_bytes}
-use Rattle.range_guess.proofs.CutLaws.{count_before}
+use Rattle.range_guess.proofs.CutLaws.{count_before, count_covers}
 use Rattle.range_scan.specs.declared.context.Context.{Context}
-use Rattle.range_scan.specs.declared.span.Span.{Span}
+use Rattle.range_guess.specs.declared.span.Span.{Span}
 use Rattle.range_scan.specs.Part.{part_of}
 use Rattle.range_scan.specs.Scanned.{judge_in, span_part}
 use Rattle.range_scan.proofs.JudgeLaws.{first_bytes_decide}
-use Rattle.range_scan.proofs.RangeLaws.{count_covers}
 use Rattle.range_scan.proofs.WindowLaws.{window_suffices}
 use Rattle.load_crew.proofs.WindowLaws.{slice-in, before-in}
-use Rattle.window_load.specs.Ranges.{begins_behind, guess_of, span_in, range_reach, ranges_end}
+use Rattle.range_guess.specs.Span.{guess_of}
+use Rattle.range_scan.specs.Ranges.{ranges_end}
+use Rattle.window_load.specs.Ranges.{begins_behind, span_in, range_reach}
 use Rattle.window_load.specs.Reading.{MayGoOn}
 use Rattle.window_load.specs.Window.{WindowView}
 use Rattle.window_load.proofs.RowEnds.{decided}

@@ -1,28 +1,28 @@
 -- How far the ranges of the data are read in windows, turn by turn.
-use Rattle.std.proofs.Common.{Bool, inl, inr, ◌⊎◌, ◌≡◌, ℕ, ◌+◌, ◌-◌, ◌%◌, ◌<◌, ◌≤◌, true, not, List, [], ◌++◌, length, Option, refl, sym, ◌∙◌, ap, subst, arith}
-use Rattle.std.specs.Prelude.{Some, option_map, slice_get, ◌==◌, cond}
+use Rattle.std.proofs.Common.{Bool, inl, inr, ◌⊎◌, ◌≡◌, ℕ, ◌+◌, ◌-◌, ◌<◌, ◌≤◌, true, List, [], ◌++◌, length, Option, refl, sym, ◌∙◌, ap, subst, arith}
+use Rattle.std.specs.Prelude.{Some, option_map, slice_get}
 use Rattle.csv_source.specs.Moves.{MovesFront}
 use Rattle.quote_automaton.specs.declared.state.State.{State}
 use Rattle.quote_automaton.specs.declared.state.State.TheVariants.{RowStart}
-use Rattle.quote_automaton.specs.Automaton.{same_state}
-use Rattle.range_guess.specs.Cut.{group_len, range_count}
-use Rattle.range_guess.specs.Rescans.{true_opening}
+use Rattle.range_guess.specs.Cut.{range_count}
+use Rattle.range_guess.specs.Span.{opening_in}
 use Rattle.reject_book.specs.declared.book.Keep.TheVariants.{First}
 use Rattle.reject_book.specs.declared.reject.Reject.{Reject}
 use Rattle.reject_book.specs.BookView.{BookView}
 use Rattle.reject_book.specs.Kept.{raised}
 use Rattle.range_scan.specs.declared.context.Context.{Context}
 use Rattle.range_scan.specs.declared.joined.Joined.{Joined}
-use Rattle.range_scan.specs.declared.span.Span.{Span}
-use Rattle.range_scan.specs.Joined.{IsBegun}
+use Rattle.range_guess.specs.declared.span.Span.{Span}
+use Rattle.range_scan.specs.Joined.{IsJoinedPart, IsBegun}
 use Rattle.range_scan.specs.Part.{Part}
+use Rattle.range_scan.specs.Ranges.{AddsSpan, IsJoinedTo, ranges_part}
+use Rattle.range_scan.proofs.RangeSteps.{none, begun, next_range, no_faults, first_reject_is, all_ranges}
 use Rattle.value_types.specs.Datum.{Datum}
 use Rattle.window_load.specs.declared.course.Course.{Course}
 use Rattle.window_load.specs.declared.ranges_read.RangesRead.TheVariants as reads
-use Rattle.window_load.specs.Ranges.{begins_behind, AddsRange, IsJoinedTo, is_again, is_wrong, span_in, range_reach, ranges_part}
-use Rattle.window_load.specs.Reading.{MayGoOn, IsReadInWindows}
+use Rattle.window_load.specs.Ranges.{begins_behind, span_in, range_reach}
+use Rattle.window_load.specs.Reading.{whole_part, MayGoOn, IsReadInWindows, IsReadWhole}
 use Rattle.window_load.specs.Window.{WindowView, behind_front, IsFilled}
-use Rattle.window_load.proofs.RangeSteps.{none, begun, state_is, next_range, no_faults, first_reject_is, all_ranges, whole}
 use Rattle.window_load.proofs.RangeWindows.{is_one, inside, part_is, width_is, guess_is, all_ranges_read}
 use Rattle.window_load.proofs.SoFar.{IsReadSoFar}
 use Rattle.window_load.proofs.SoFar as so_far
@@ -37,6 +37,17 @@ pub record AreRangesRead (context : Context) (course : Course) (k : ℕ) (joined
 abbrev pub IsUpToRange : Context → Course → Option (List ℕ) → Option (List ℕ) → WindowView → WindowView → ℕ → ℕ → Joined → Type 0
 IsUpToRange context course left_before left_after old w k at joined =
     IsReadSoFar (AreRangesRead context course k joined) course.start course.range_size left_before left_after old w k at
+
+-- all ranges are the data
+whole : (context : Context) (text : List ℕ) (course : Course) → 0 < course.range_size → (joined : Joined) →
+    IsJoinedTo context text course.start course.range_size (range_count (length text) course.range_size) joined → (course.stop ≡ true → (whole_part context text course).faults ≡ []) →
+    IsReadWhole context text course joined
+whole context text course some joined h good = record {
+  part = subst (λ (p : Part (List Datum) Reject). IsJoinedPart context p joined) (all_ranges context text course.start course.range_size some) h.part;
+  again = h.rescans;
+  scanned = ap (λ n. length text + n) h.rescanned;
+  good = good;
+}
 
 module _ (context : Context) (course : Course) (some : 0 < course.range_size) (left_before : Option (List ℕ)) (old : WindowView) where
   pub read_none : (joined : Joined) → old.base ≡ course.start → IsBegun context RowStart joined → IsUpToRange context course left_before left_before old old 0 0 joined
@@ -76,8 +87,8 @@ module _ (context : Context) (course : Course) (some : 0 < course.range_size) (l
     module _ (line : ℕ) (filled : IsFilled (at + range_reach course.range_size line) w) (there : at < length w.kept)
         (enough : (w.ended ≡ true) ⊎ ((context.schema.max_line_size ≤ line) ⊎ (begins_behind context.dialect w.kept (span_in at (length w.kept) course.range_size k) joined.end ≡ true)))
         (new : Joined)
-        (adds : AddsRange context w.kept w.base (span_in at (length w.kept) course.range_size k)
-        (is_again context.dialect w.kept (span_in at (length w.kept) course.range_size k) joined.end) joined new) where
+        (adds : AddsSpan context w.kept w.base (span_in at (length w.kept) course.range_size k)
+        (opening_in context.dialect w.kept (span_in at (length w.kept) course.range_size k) joined.end) joined new) where
       abbrev text : List ℕ
       text = old.kept ++ r.came
 
@@ -91,13 +102,8 @@ module _ (context : Context) (course : Course) (some : 0 < course.range_size) (l
           let within = inside course.start course.range_size k at text w r.stands some line filled.0 there more may in
           let part = part_is course.start course.range_size k at text w r.stands some line filled.0 there more may context joined.end enough in
           let width = width_is course.start course.range_size k at text w r.stands some line filled.0 there more may in
-          let state : joined.end ≡ true_opening context.dialect (text ++ more) course.range_size k =
-          state_is context (text ++ more) course.start course.range_size k within joined h in
           let guessed = guess_is course.start course.range_size k at text w r.stands some line filled.0 there more may context in
-          let wrong : is_again context.dialect w.kept span joined.end ≡ is_wrong context.dialect (text ++ more) course.range_size k =
-          λ i. not (same_state (cond (k % group_len == 0) (state i) (guessed i)) (state i)) in
-          next_range context (text ++ more) course.start course.range_size k within joined h w.kept w.base span part width
-          (is_again context.dialect w.kept span joined.end) wrong new adds
+          next_range context (text ++ more) course.start course.range_size k within joined h w.kept w.base span part width refl guessed new adds
 
       -- the reading goes on behind it
       pub read_next : (course.stop ≡ true → (context.keep ≡ First 1) × (length new.book.stored ≤ 0)) →
@@ -131,11 +137,11 @@ module _ (context : Context) (course : Course) (some : 0 < course.range_size) (l
 
 -- a range that was read in a window of so many bytes
 pub in_window : (context : Context) (kept : List ℕ) (place : ℕ) (read : Span) (at len size k : ℕ) (old new : Joined) → read ≡ span_in at len size k → len ≡ length kept →
-    AddsRange context kept place read (is_again context.dialect kept read old.end) old new →
-    AddsRange context kept place (span_in at (length kept) size k) (is_again context.dialect kept (span_in at (length kept) size k) old.end) old new
+    AddsSpan context kept place read (opening_in context.dialect kept read old.end) old new →
+    AddsSpan context kept place (span_in at (length kept) size k) (opening_in context.dialect kept (span_in at (length kept) size k) old.end) old new
 in_window context kept place read at len size k old new is_span is_len adds =
-    subst (λ n. AddsRange context kept place (span_in at n size k) (is_again context.dialect kept (span_in at n size k) old.end) old new) is_len
-    (subst (λ (s : Span). AddsRange context kept place s (is_again context.dialect kept s old.end) old new) is_span adds)
+    subst (λ n. AddsSpan context kept place (span_in at n size k) (opening_in context.dialect kept (span_in at n size k) old.end) old new) is_len
+    (subst (λ (s : Span). AddsSpan context kept place s (opening_in context.dialect kept s old.end) old new) is_span adds)
 
 -- why a window is enough for it
 pub enough_in : (context : Context) (w : WindowView) (read : Span) (at len size k : ℕ) (state : State) (line : ℕ) (far sure : Bool) → read ≡ span_in at len size k → len ≡ length w.kept →

@@ -9,15 +9,15 @@ ghost use Rattle.window_load.specs.Reading.{IsReadInWindows};
 ghost use Rattle.window_load.specs.Window.{reach, ReachesOn};
 ghost use Rattle.window_load.specs.declared.stop.LoadStop.TheVariants as stops;
 
+use crate::adding::add_range;
 use crate::course::Course;
 use crate::ranges_read::RangesRead;
 use crate::reject::first_reject;
-use crate::scanner::{CALLER, Scanner};
 use crate::stop::LoadStop;
 use crate::window::InputWindow;
 use csv_source::{Gate, Source};
 use quote_automaton::State;
-use range_scan::{Joined, Span};
+use range_scan::{CALLER, Joined, RangeScanner, Span};
 
 /// The range with this number, which begins at a place of a window of so many bytes.
 fn span_in(at: usize, window_length: usize, range_size: u64, number: u64) -> Span
@@ -50,7 +50,7 @@ const NEAR: u64 = 65_536;
 /// enough: so little that it stays in the processor's caches between its reading and its scan, where a group of ranges would
 /// take fresh memory.
 pub fn read_ranges<S: Source, G: Gate>(
-    scanner: &Scanner<'_, G>,
+    scanner: &RangeScanner<'_, G>,
     course: Course,
     window: &mut InputWindow,
     source: &mut S,
@@ -87,7 +87,7 @@ pub fn read_ranges<S: Source, G: Gate>(
         }
         let span = span_in(at, window.len(), course.range_size, number);
         let sure = far || window.ended();
-        if !scanner.add_range(&mut joined, window, &span, sure)? {
+        if !add_range(scanner, &mut joined, window, &span, sure)? {
             far = true;
             continue;
         }

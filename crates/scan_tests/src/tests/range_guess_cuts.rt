@@ -2,7 +2,7 @@
 use super::dialects::{backslashes, commas, commented};
 use byte_classes::Dialect;
 use quote_automaton::State;
-use range_guess::{cut, guess};
+use range_guess::{Span, Stretch, cut, guess, opening_in};
 use std::process::Abort;
 
 /// A range, the byte before it, and the guess.
@@ -60,4 +60,45 @@ fn the_last_range_may_be_shorter(rt: HostRuntime) {
     assert_eq!(rt; ranges.bounds(1), (4, 8));
     assert_eq!(rt; ranges.bounds(2), (8, 10));
     assert_eq!(rt; cut(0, 4).count(), 0);
+}
+
+#[test]
+fn a_stretch_has_spans_of_a_window(rt: HostRuntime) {
+    let stretch = Stretch {
+        first_range: 63,
+        from: 3,
+        to: 12,
+        range_size: 4,
+    };
+    assert_eq!(rt; stretch.count(), 3);
+    let last = Span {
+        number: 65,
+        from: 11,
+        to: 12,
+    };
+    assert_eq!(rt; stretch.span_of(2), last);
+}
+
+#[test]
+fn the_first_of_a_group_opens_where_the_range_before_it_ends(rt: HostRuntime) {
+    let dialect = commas(&rt);
+    let text = b"1,2\n3,4\n";
+    let first = Span {
+        number: 64,
+        from: 4,
+        to: 8,
+    };
+    let next = Span {
+        number: 65,
+        from: 4,
+        to: 8,
+    };
+    assert_eq!(rt;
+        opening_in(&dialect, text, &first, State::Quoted),
+        State::Quoted
+    );
+    assert_eq!(rt;
+        opening_in(&dialect, text, &next, State::Quoted),
+        State::RowStart
+    );
 }

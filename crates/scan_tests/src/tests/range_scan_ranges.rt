@@ -6,9 +6,9 @@ use super::dialects::commas;
 use super::shown::{push_cell, push_number};
 use byte_classes::Dialect;
 use column_store::Table;
-use csv_source::{Bytes, NoMemory};
+use csv_source::{Bytes, NoMemory, OpenGate};
 use quote_automaton::State;
-use range_scan::{Context, Joined, Part, Span, scan};
+use range_scan::{CALLER, Context, Joined, Part, RangeScanner, Span, View, scan};
 use reject_book::{Book, Keep, Schema};
 use std::alloc::Global;
 use std::process::Abort;
@@ -260,5 +260,35 @@ fn a_part_is_appended_behind_others(rt: HostRuntime) -> Result<(), Fail> {
     assert_eq!(rt; joined.table.rows(), 4);
     assert!(rt; joined.book.len() == 2);
     assert_eq!(rt; joined.book.get(1).line, 5);
+    Ok(())
+}
+
+#[test]
+fn a_range_with_a_wrong_guess_is_scanned_again(rt: HostRuntime) -> Result<(), Fail> {
+    let context = context(rt.alloc(), commas(&rt), ColumnType::Bigint)?;
+    let scanner = RangeScanner {
+        alloc: rt.alloc(),
+        context: &context,
+        gate: &OpenGate,
+    };
+    let view = View {
+        bytes: b"1,\"\n2,3\n\"\n4,5\n",
+        base: 0,
+    };
+    let span = Span {
+        number: 1,
+        from: 4,
+        to: 8,
+    };
+    let mut joined = Joined::new(rt.alloc(), &context, State::Quoted)?;
+    let first = scanner.opening(&view, &span, joined.end);
+    assert_eq!(rt; first, State::RowStart);
+    let kept = scanner.scan(CALLER, &view, &span, first)?;
+    assert_eq!(rt; kept.table().rows(), 1);
+    let part = scanner.part_in(&view, &span, joined.end, Some(kept))?;
+    joined.add_range(part, first, 4)?;
+    assert_eq!(rt; joined.table.rows(), 0);
+    assert_eq!(rt; (joined.end, joined.line_ends), (State::Quoted, 1));
+    assert_eq!(rt; (joined.rescans, joined.rescanned), (1, 4));
     Ok(())
 }

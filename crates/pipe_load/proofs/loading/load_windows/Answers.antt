@@ -21,7 +21,7 @@ join_windows-requires-clause-numbered g c κs within =
 
 pub returns-clause-ok : goal.returns-clause-ok
 returns-clause-ok g c =
-    let context = c.args.scanner.now.context.now in
+    let context = c.args.scanner.now.ranges.context.now in
     let l : Layout = c.args.scanner.now.layout in
     let number = c.read_beside.new.reader.number in
     let text : List ℕ = c.in-Ok.ensures.ok.0 in

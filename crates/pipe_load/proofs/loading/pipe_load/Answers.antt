@@ -8,7 +8,6 @@ use Rattle.pipe_load.proofs.loading.pipe_load.Goals as goal
 
 pub invariant_of-scanner : goal.invariant_of-scanner
 invariant_of-scanner g c = record {
-  fits = c.requires.fits;
   lies = subst IsLayout (sym c.layout_of-layout.ensures)
       (layout_lies c.args.data_start c.args.range_size c.args.context.now.schema.max_line_size c.requires.some c.requires.within c.requires.line
       (omega (arith, c.requires.place, c.requires.begins, c.requires.room, c.room-room.ensures.value, c.if-room-eq0.false)));

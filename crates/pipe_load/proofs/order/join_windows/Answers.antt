@@ -12,26 +12,26 @@ use Rattle.pipe_load.proofs.order.join_windows.Goals as goal
 pub place_stages-requires-clause-few : goal.place_stages-requires-clause-few
 place_stages-requires-clause-few g c =
     let put : List Window = (view c.args.feed.pass).put in
-    let h : AreSlots c.args.scanner.now.context.now c.args.scanner.now.layout (made_of c.args.feed) c.in_ok-slots.slots = c.in_ok-slots.ensures _ _ (made_of c.args.feed) c.requires.made in
+    let h : AreSlots c.args.scanner.now.ranges.context.now c.args.scanner.now.layout (made_of c.args.feed) c.in_ok-slots.slots = c.in_ok-slots.ensures _ _ (made_of c.args.feed) c.requires.made in
     let many = h.many in let made = c.requires.made in
     omega (arith, many, made, length-append put c.args.feed.waiting.items, c.in_ok-slots.slots.slots.ok.0)
 
 pub place_stages-requires-clause-all : goal.place_stages-requires-clause-all
 place_stages-requires-clause-all g c =
     let long : All (λ (s : Stage). s.short ≡ false) c.args.stages.items = subst (All (λ (s : Stage). s.short ≡ false)) c.as_slice.ensures.value (c.any_short.ensures c.if-any_short.false) in
-    (c.args.scanner.now.context.now, c.args.scanner.now.layout, λ k d lt. c.requires.all k d lt (long k d lt))
+    (c.args.scanner.now.ranges.context.now, c.args.scanner.now.layout, λ k d lt. c.requires.all k d lt (long k d lt))
 
 pub place_waiting-requires : goal.place_waiting-requires
 place_waiting-requires g c k d lt =
     let put : List Window = (view c.args.feed.pass).put in
     let number = number_behind put c.args.feed.waiting.items c.requires.numbered k d lt in
-    let h : AreSlots c.args.scanner.now.context.now c.args.scanner.now.layout (made_of c.args.feed) c.in_ok-slots.slots = c.in_ok-slots.ensures _ _ (made_of c.args.feed) c.requires.made in
+    let h : AreSlots c.args.scanner.now.ranges.context.now c.args.scanner.now.layout (made_of c.args.feed) c.in_ok-slots.slots = c.in_ok-slots.ensures _ _ (made_of c.args.feed) c.requires.made in
     let many = h.many in let made = c.requires.made in let same = c.place_stages.ensures.same in
     omega (arith, lt, number, many, made, same, length-append put c.args.feed.waiting.items, c.in_ok-slots.slots.slots.ok.0)
 
 pub loop-number-init : goal.loop-number-init
 loop-number-init g c =
-    let context = c.args.scanner.now.context.now in
+    let context = c.args.scanner.now.ranges.context.now in
     let l = c.args.scanner.now.layout in
     let made : List Window = made_of c.args.feed in
     let put : List Window = (view c.args.feed.pass).put in
@@ -52,7 +52,7 @@ loop-number-init g c =
 
 pub loop-number-preserved : goal.loop-number-preserved
 loop-number-preserved g c =
-    let context = c.args.scanner.now.context.now in
+    let context = c.args.scanner.now.ranges.context.now in
     let l = c.args.scanner.now.layout in
     let made : List Window = made_of c.args.feed in
     let inv = c.loop-number.invariant in
@@ -74,5 +74,5 @@ loop-number-preserved g c =
 pub returns : goal.returns
 returns g c = λ text is covered begins.
     let last : c.loop-number.number ≡ c.args.count = let t = c.loop-number-test.false in omega (arith, t) in
-    last_window c.args.scanner.now.context.now c.args.scanner.now.layout c.args.scanner.now.lies text c.args.count c.loop-number.counted covered
-    (subst (λ n. IsJoinedTo c.args.scanner.now.context.now text c.args.scanner.now.layout.data_start c.args.scanner.now.layout.range_size (min (n * c.args.scanner.now.layout.ranges) (range_count (length text) c.args.scanner.now.layout.range_size)) c.loop-number.counted) last (c.loop-number.invariant.joined text is covered begins))
+    last_window c.args.scanner.now.ranges.context.now c.args.scanner.now.layout c.args.scanner.now.lies text c.args.count c.loop-number.counted covered
+    (subst (λ n. IsJoinedTo c.args.scanner.now.ranges.context.now text c.args.scanner.now.layout.data_start c.args.scanner.now.layout.range_size (min (n * c.args.scanner.now.layout.ranges) (range_count (length text) c.args.scanner.now.layout.range_size)) c.loop-number.counted) last (c.loop-number.invariant.joined text is covered begins))

@@ -11,9 +11,9 @@ abbrev pub invariant-loop-number : goal.invariant-loop-number
 invariant-loop-number g l = record {
   pass : HasPut l.windows (view l.fn.feed.pass).put l.pass;
   many : vec_len l.slots.slots ≡ l.count;
-  slots : AreSlots l.scanner.context.now l.scanner.layout (made_of l.fn.feed) l.slots;
-  types : l.counted.joined.table.types ≡ l.scanner.context.now.schema.types;
-  keep : l.counted.joined.book.keep ≡ l.scanner.context.now.keep;
+  slots : AreSlots l.scanner.ranges.context.now l.scanner.layout (made_of l.fn.feed) l.slots;
+  types : l.counted.joined.table.types ≡ l.scanner.ranges.context.now.schema.types;
+  keep : l.counted.joined.book.keep ≡ l.scanner.ranges.context.now.keep;
   joined : (text : List ℕ) → made_of l.fn.feed ≡ windows_of l.scanner.layout text l.count → length text ≤ l.count * stride l.scanner.layout → (0 < l.count → (l.count - 1) * stride l.scanner.layout < length text) →
-      IsJoinedTo l.scanner.context.now text l.scanner.layout.data_start l.scanner.layout.range_size (min (l.number * l.scanner.layout.ranges) (range_count (length text) l.scanner.layout.range_size)) l.counted;
+      IsJoinedTo l.scanner.ranges.context.now text l.scanner.layout.data_start l.scanner.layout.range_size (min (l.number * l.scanner.layout.ranges) (range_count (length text) l.scanner.layout.range_size)) l.counted;
 }

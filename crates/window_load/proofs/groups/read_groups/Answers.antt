@@ -1,6 +1,6 @@
 use Rattle.std.proofs.Common.{◌≡◌, ◌+◌, ◌-◌, ◌<◌, ◌≤◌, ◌^◌, sym, subst, ap, ◌∙◌, length, Err, refl, arith, rules}
 use Rattle.reject_book.specs.BookView.{BookView}
-use Rattle.load_crew.specs.declared.group.Group.{Group}
+use Rattle.range_guess.specs.declared.stretch.Stretch.{Stretch as Group}
 use Rattle.window_load.specs.declared.ranges_read.RangesRead.TheVariants as reads
 use Rattle.window_load.specs.declared.stop.LoadStop.TheVariants as stops
 use Rattle.window_load.specs.Groups.{group_reach}

@@ -1,8 +1,9 @@
 use Rattle.std.proofs.Common.{◌≡◌, ◌<◌, ◌+◌, ℕ, List, ap, sym, ◌∙◌, subst, arith}
-use Rattle.range_scan.specs.declared.span.Span.{Span}
+use Rattle.range_guess.specs.declared.span.Span.{Span}
 use Rattle.range_scan.specs.Scanned.{Scanned}
-use Rattle.pipe_load.specs.declared.layout.Stretch.{Stretch}
-use Rattle.pipe_load.specs.Layout.{stretch_of, stretch_count, span_of}
+use Rattle.range_guess.specs.declared.stretch.Stretch.{Stretch}
+use Rattle.range_guess.specs.Stretch.{stretch_count, span_of}
+use Rattle.pipe_load.specs.Layout.{base_of, stretch_of}
 use Rattle.pipe_load.specs.Scanning.{guessed_part}
 use Rattle.pipe_load.specs.Joining.{AddsRange, AddsRanges, GuessedFrom, stretch_len}
 use Rattle.pipe_load.proofs.WindowRanges.{adds_more, adds_none, parts_next}
@@ -17,16 +18,16 @@ loop-range-init g c = record {
 pub loop-range-preserved : goal.loop-range-preserved
 loop-range-preserved g c =
     let inv = c.loop-range.invariant in
-    let context = c.args.scanner.now.context.now in
+    let context = c.args.scanner.now.ranges.context.now in
     let l = c.args.scanner.now.layout in
     let w = c.args.kept.window in
     let n = c.loop-range.range in
-    let value = c.in_ok-stretch.ensures.value in
-    let count : n < stretch_count c.in_ok-stretch.stretch = let t = c.loop-range-test.true in let e = c.count-range-end.ensures in omega (arith, t, e) in
+    let value = c.in_ok-base.ensures.value in
+    let count : n < stretch_count c.in_ok-base.stretch = let t = c.loop-range-test.true in let e = c.count-range-end.ensures in omega (arith, t, e) in
     let below : n < stretch_len l w = subst (λ (s : Stretch). n < stretch_count s) value count in
-    let adds : AddsRange context w.bytes (stretch_of l w).base (span_of (stretch_of l w) n) c.loop-range.self c.add_range.new.self =
+    let adds : AddsRange context w.bytes (base_of l w) (span_of (stretch_of l w) n) c.loop-range.self c.add_range.new.self =
     subst (λ (y : List ℕ × ℕ × Span). AddsRange context y.0 y.1 y.2 c.loop-range.self c.add_range.new.self)
-    (λ i. (c.bytes.ensures i, (value i).base, (c.span_of-span.ensures ∙ ap (λ (s : Stretch). span_of s n) value) i)) c.in_ok-add_range.ensures in
+    (λ i. (c.bytes.ensures i, c.in_ok-base.ensures.base i, (c.span_of-span.ensures ∙ ap (λ (s : Stretch). span_of s n) value) i)) c.in_ok-add_range.ensures in
     record {
       joined = adds_more context l w n c.args.self.now c.loop-range.self c.add_range.new.self c.args.scanner.now.lies below inv.joined adds;
       parts = subst (GuessedFrom context l w (n + 1)) (sym {A = List Scanned} c.pop_front-part.ensures.rest) (parts_next (guessed_part context l w) n _ inv.parts);
@@ -38,6 +39,6 @@ returns g c =
     let l = c.args.scanner.now.layout in
     let w = c.args.kept.window in
     let n = c.loop-range.range in
-    let count : n ≡ stretch_count c.in_ok-stretch.stretch = let t = c.loop-range-test.false in let e = c.count-range-end.ensures in omega (arith, t, e) in
-    let all : n ≡ stretch_len l w = count ∙ ap stretch_count c.in_ok-stretch.ensures.value in
-    subst (λ m. AddsRanges c.args.scanner.now.context.now l w m c.args.self.now c.loop-range.self) all inv.joined
+    let count : n ≡ stretch_count c.in_ok-base.stretch = let t = c.loop-range-test.false in let e = c.count-range-end.ensures in omega (arith, t, e) in
+    let all : n ≡ stretch_len l w = count ∙ ap stretch_count c.in_ok-base.ensures.value in
+    subst (λ m. AddsRanges c.args.scanner.now.ranges.context.now l w m c.args.self.now c.loop-range.self) all inv.joined

@@ -1,17 +1,20 @@
--- One range more: what is joined with it.
-use Rattle.std.proofs.Common.{◌≡◌, ℕ, ◌+◌, ◌-◌, ◌*◌, ◌<◌, ◌≤◌, min, Bool, true, false, not, cond, List, [], ◌∷◌, ◌++◌, map, length, take, Some, refl, sym, ap, subst, ◌∙◌, arith, length-append}
-use Rattle.std.specs.Prelude.{filter, sum_by, option_map, slice_get, Option, None}
+-- The first ranges of some data, and one more: what is joined with it.
+use Rattle.std.proofs.Common.{◌≡◌, ℕ, ◌+◌, ◌-◌, ◌*◌, ◌%◌, ◌<◌, ◌≤◌, min, Bool, true, false, not, cond, List, [], ◌∷◌, ◌++◌, map, length, take, Some, refl, sym, ap, subst, ◌∙◌, arith, length-append}
+use Rattle.std.specs.Prelude.{◌==◌, filter, sum_by, option_map, slice_get, Option, None}
 use Rattle.std.specs.List.{range_with_len}
 use Rattle.std.proofs.lemmas.List.Elements.{filter-append}
 use Rattle.std.proofs.lemmas.List.FromFn.{map-range_with_len_more}
 use Rattle.std.proofs.lemmas.List.Sums.{sum_by-append, sum_by-cons}
 use Rattle.byte_classes.specs.Dialect.{Marks}
+use Rattle.byte_classes.specs.Places.{byte_before}
 use Rattle.quote_automaton.specs.declared.state.State.{State}
 use Rattle.quote_automaton.specs.declared.state.State.TheVariants.{RowStart}
-use Rattle.quote_automaton.specs.Automaton.{state_after}
+use Rattle.quote_automaton.specs.Automaton.{state_after, same_state}
 use Rattle.value_types.specs.Datum.{Datum}
-use Rattle.range_guess.specs.Cut.{range_count}
-use Rattle.range_guess.specs.Rescans.{range_bytes, true_opening}
+use Rattle.range_guess.specs.Cut.{range_count, group_len}
+use Rattle.range_guess.specs.Guess.{guess}
+use Rattle.range_guess.specs.Rescans.{range_bytes, true_opening, is_again, is_rescanned, first_rescanned}
+use Rattle.range_guess.specs.Span.{guess_of, opening_in}
 use Rattle.reject_book.specs.declared.book.Keep.{Keep}
 use Rattle.reject_book.specs.declared.book.Keep.TheVariants.{First}
 use Rattle.reject_book.specs.declared.reject.Reject.{Reject}
@@ -19,7 +22,7 @@ use Rattle.reject_book.specs.BookView.{BookView}
 use Rattle.reject_book.specs.Kept.{book_of, raised}
 use Rattle.range_scan.specs.declared.context.Context.{Context}
 use Rattle.range_scan.specs.declared.joined.Joined.{Joined}
-use Rattle.range_scan.specs.declared.span.Span.{Span}
+use Rattle.range_guess.specs.declared.span.Span.{Span}
 use Rattle.range_scan.specs.Joined.{IsJoinedPart, IsBegun, IsOfRange, IsAppended}
 use Rattle.range_scan.specs.Part.{Part, part_of, join, no_part, is_bad, is_empty}
 use Rattle.range_scan.specs.Scanned.{Scanned, judge_in, span_part, scanned}
@@ -27,10 +30,9 @@ use Rattle.range_scan.proofs.BadLaws.{first_fault_left}
 use Rattle.range_scan.proofs.JoinedParts.{range_is_part, appended_is_part}
 use Rattle.range_scan.proofs.JoinLaws.{part_of-join}
 use Rattle.range_scan.proofs.JudgeLaws.{rows_are_judged_alike}
-use Rattle.range_scan.proofs.RangeLaws.{count_covers, no_part_at}
-use Rattle.window_load.specs.declared.course.Course.{Course}
-use Rattle.window_load.specs.Ranges.{AddsRange, IsJoinedTo, is_wrong, ranges_end, ranges_part, wrong_ranges}
-use Rattle.window_load.specs.Reading.{whole_part, IsReadWhole}
+use Rattle.range_scan.proofs.RangeLaws.{no_part_at}
+use Rattle.range_guess.proofs.CutLaws.{count_covers}
+use Rattle.range_scan.specs.Ranges.{AddsSpan, IsJoinedTo, ranges_end, ranges_part}
 
 -- ---- the numbers of the first ranges, and a number that counts or not
 
@@ -92,16 +94,16 @@ module _ (context : Context) (text : List ℕ) (start size : ℕ) where
   -- ---- the next range
 
   module _ (k : ℕ) (inside : k * size ≤ length text) where
-    wrong-more : wrong_ranges d text size (k + 1) ≡ wrong_ranges d text size k ++ cond (is_wrong d text size k) (k ∷ []) []
-    wrong-more = ap (filter (is_wrong d text size)) (ranges-more k) ∙ filter-append (is_wrong d text size) (range_with_len 0 k) (k ∷ [])
+    rescanned-more : first_rescanned d text size (k + 1) ≡ first_rescanned d text size k ++ cond (is_rescanned d text size k) (k ∷ []) []
+    rescanned-more = ap (filter (is_rescanned d text size)) (ranges-more k) ∙ filter-append (is_rescanned d text size) (range_with_len 0 k) (k ∷ [])
 
-    count-more : length (wrong_ranges d text size (k + 1)) ≡ length (wrong_ranges d text size k) + cond (is_wrong d text size k) 1 0
-    count-more = ap length wrong-more ∙ length-append (wrong_ranges d text size k) (cond (is_wrong d text size k) (k ∷ []) [])
-        ∙ ap (λ n. length (wrong_ranges d text size k) + n) (one_if (is_wrong d text size k) k)
+    count-more : length (first_rescanned d text size (k + 1)) ≡ length (first_rescanned d text size k) + cond (is_rescanned d text size k) 1 0
+    count-more = ap length rescanned-more ∙ length-append (first_rescanned d text size k) (cond (is_rescanned d text size k) (k ∷ []) [])
+        ∙ ap (λ n. length (first_rescanned d text size k) + n) (one_if (is_rescanned d text size k) k)
 
-    bytes-more : sum_by width (wrong_ranges d text size (k + 1)) ≡ sum_by width (wrong_ranges d text size k) + cond (is_wrong d text size k) (width k) 0
-    bytes-more = ap (sum_by width) wrong-more ∙ sum_by-append width (wrong_ranges d text size k) (cond (is_wrong d text size k) (k ∷ []) [])
-        ∙ ap (λ n. sum_by width (wrong_ranges d text size k) + n) (sum_if width (is_wrong d text size k) k)
+    bytes-more : sum_by width (first_rescanned d text size (k + 1)) ≡ sum_by width (first_rescanned d text size k) + cond (is_rescanned d text size k) (width k) 0
+    bytes-more = ap (sum_by width) rescanned-more ∙ sum_by-append width (first_rescanned d text size k) (cond (is_rescanned d text size k) (k ∷ []) [])
+        ∙ ap (λ n. sum_by width (first_rescanned d text size k) + n) (sum_if width (is_rescanned d text size k) k)
 
     next_end : ranges_end text size (k + 1) ≡ min (k * size + size) (length text)
     next_end = let e : (k + 1) * size ≡ k * size + size = omega arith in ap (λ n. min n (length text)) e
@@ -116,19 +118,26 @@ module _ (context : Context) (text : List ℕ) (start size : ℕ) where
       pub state_is : old.end ≡ true_opening d text size k
       state_is = h.part.end ∙ ap (λ n. state_after d RowStart (take n text)) (let e : ranges_end text size k - 0 ≡ k * size = omega (arith, inside) in e)
 
+      -- it counts where it is read again
+      again_is : (bytes : List ℕ) (span : Span) → span.number ≡ k → guess_of d bytes span ≡ guess d (range_bytes text size k) (byte_before text (k * size)) →
+          is_again (opening_in d bytes span old.end) old.end ≡ is_rescanned d text size k
+      again_is bytes span number_is guess_is = λ i. not (same_state (cond (number_is i % group_len == 0) (state_is i) (guess_is i)) (state_is i))
+
       pub next_range : (bytes : List ℕ) (window_base : ℕ) (span : Span) →
           span_part context bytes window_base span old.end ≡ part_of (judge_in context) d text start (ranges_end text size k) (ranges_end text size (k + 1)) old.end →
-          span.to - span.from ≡ width k →
-          (again : Bool) → again ≡ is_wrong d text size k → (new : Joined) → AddsRange context bytes window_base span again old new → IsJoinedTo context text start size (k + 1) new
-      next_range bytes window_base span part_is width_is again again_is new adds =
+          span.to - span.from ≡ width k → span.number ≡ k → guess_of d bytes span ≡ guess d (range_bytes text size k) (byte_before text (k * size)) →
+          (new : Joined) → AddsSpan context bytes window_base span (opening_in d bytes span old.end) old new → IsJoinedTo context text start size (k + 1) new
+      next_range bytes window_base span part_is width_is number_is guess_is new adds =
+          let first : State = opening_in d bytes span old.end in
+          let wrong : is_again first old.end ≡ is_rescanned d text size k = again_is bytes span number_is guess_is in
           let q : Part (List Datum) Reject = span_part context bytes window_base span old.end in
           let scan : Scanned = scanned context bytes window_base span old.end in
-          let range : IsOfRange scan again (span.to - span.from) adds.next = adds.of in
+          let range : IsOfRange scan (is_again first old.end) (span.to - span.from) adds.next = adds.of in
           let is : IsAppended adds.next old new = adds.adds in
           let next : join raised (front k) q ≡ front (k + 1) = ap (join raised (front k)) part_is ∙ front-more old.end h.part.end in
-          let one : IsJoinedPart context q adds.next = range_is_part context span.number old.end q scan again (span.to - span.from) adds.next refl range in
-          let count_one : adds.next.rescans ≡ cond {A = ℕ} (is_wrong d text size k) 1 0 = range.rescans ∙ ap (λ (b : Bool). cond {A = ℕ} b 1 0) again_is in
-          let bytes_one : adds.next.rescanned ≡ cond {A = ℕ} (is_wrong d text size k) (width k) 0 = range.rescanned ∙ (λ i. cond {A = ℕ} (again_is i) (width_is i) 0) in
+          let one : IsJoinedPart context q adds.next = range_is_part context span.number old.end q scan (is_again first old.end) (span.to - span.from) adds.next refl range in
+          let count_one : adds.next.rescans ≡ cond {A = ℕ} (is_rescanned d text size k) 1 0 = range.rescans ∙ ap (λ (b : Bool). cond {A = ℕ} b 1 0) wrong in
+          let bytes_one : adds.next.rescanned ≡ cond {A = ℕ} (is_rescanned d text size k) (width k) 0 = range.rescanned ∙ (λ i. cond {A = ℕ} (wrong i) (width_is i) 0) in
           record {
             part = subst (λ (p : Part (List Datum) Reject). IsJoinedPart context p new) next (appended_is_part context (front k) q adds.next old new h.part one is);
             rescans = is.rescans ∙ (λ i. h.rescans i + count_one i) ∙ sym count-more;
@@ -165,14 +174,3 @@ module _ (context : Context) (text : List ℕ) (start size : ℕ) where
   all_ranges some =
       let front_is : min (range_count (length text) size * size) (length text) ≡ length text = omega (arith, count_covers (length text) size some) in
       ap (λ to. part_of (judge_in context) context.dialect text start 0 to RowStart) front_is
-
--- all ranges are the data
-pub whole : (context : Context) (text : List ℕ) (course : Course) → 0 < course.range_size → (joined : Joined) →
-    IsJoinedTo context text course.start course.range_size (range_count (length text) course.range_size) joined → (course.stop ≡ true → (whole_part context text course).faults ≡ []) →
-    IsReadWhole context text course joined
-whole context text course some joined h good = record {
-  part = subst (λ (p : Part (List Datum) Reject). IsJoinedPart context p joined) (all_ranges context text course.start course.range_size some) h.part;
-  again = h.rescans;
-  scanned = ap (λ n. length text + n) h.rescanned;
-  good = good;
-}
