@@ -8,3 +8,4 @@ pub mod WrittenReading
 pub mod WrittenRows
 pub mod WrittenSample
 pub mod WrittenTables
+mod Worked
