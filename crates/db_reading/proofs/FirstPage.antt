@@ -16,7 +16,8 @@ use Rattle.db_reading.proofs.Inner.{four-read}
 use Rattle.db_reading.proofs.Levels.{form}
 use Rattle.db_reading.proofs.Rising.{by_rank}
 use Rattle.db_reading.proofs.Roles.{Role}
-use Rattle.db_reading.proofs.Trees.{TreeReads, height-is, items-entries, whole_layout}
+use Rattle.db_reading.proofs.LeafTrees.{height-is, items-entries}
+use Rattle.db_reading.proofs.Trees.{TreeReads, whole_layout}
 
 pub first-size : (count root : ℕ) → length (first_page count root) ≡ 4096
 unfolding first_page

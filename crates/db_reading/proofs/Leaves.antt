@@ -26,127 +26,7 @@ use Rattle.db_reading.proofs.LeafCells.{SaysRow, leaf_entry, long-chained, long-
 use Rattle.db_reading.proofs.Overflow.{IsLink, chain-holds, local-some, long-some}
 use Rattle.db_reading.proofs.Roles.{IsPlaced, Lies, Role, given, given-before, given-behind, given-in}
 use Rattle.db_reading.proofs.Standing.{each-front, each-next, each-page, number-least, number-up}
-
--- a leaf that isn't empty, and not on the first page
-pub record IsLeaf (nodes : Part) (child : Child) : Type 0 where
-  pub sound : IsPage leaf_kind (nodes (number_of child.place)) 0
-  pub size : length (nodes (number_of child.place)) ≡ 4096
-  pub some : 0 < length (page_cells leaf_kind (nodes (number_of child.place)) 0)
-  pub behind : 0 < child.place
-  pub small : child.last < 2 ^ 56
-
--- the cells of a leaf
-abbrev pub leaf_cells : Part → Child → List (List ℕ)
-leaf_cells nodes child = page_cells leaf_kind (nodes (number_of child.place)) 0
-
--- the cells of leaves, and those behind them
-abbrev pub all_cells : Part → List Child → List (List ℕ) → List (List ℕ)
-all_cells nodes leaves cells = flat_map (leaf_cells nodes) leaves ++ cells
-
--- leaves in order: each has the rows behind those of the leaves before it, up to its last
-abbrev pub Spans : Layout → ℕ → List Child → ℕ → Type 0
-Spans layout low [] high = low ≡ high
-Spans layout low (child ∷ leaves) high =
-    (rows : List (List ℕ)) × (map (leaf_entry layout.spill) (leaf_cells layout.nodes child) ≡ row_entries (low + 1) rows) × (child.last ≡ low + length rows)
-    × Spans layout child.last leaves high
-
--- the leaves in order, and behind them the cells of the leaf under way
-pub record InOrder (layout : Layout) (laid : Laid) : Type 0 where
-  pub high : ℕ
-  pub leaves : Spans layout 0 laid.leaves high
-  pub rows : List (List ℕ)
-  pub cells : map (leaf_entry layout.spill) laid.cells ≡ row_entries (high + 1) rows
-  pub last : laid.last ≡ high + length rows
-
--- a page holds the rest of the row of one of these cells
-pub record IsLinked (layout : Layout) (cells : List (List ℕ)) (number : ℕ) : Type 0 where
-  pub cell : List ℕ
-  pub among : IsIn cell cells
-  pub link : IsLinkOfRow Table 4096 layout.spill (cell_body leaf_kind 4096 cell) number
-
--- a cell has the pages in which its row goes on
-abbrev pub IsChainedCell : Layout → List ℕ → Type 0
-IsChainedCell layout cell = HasChain Table 4096 layout (cell_body leaf_kind 4096 cell)
-
--- records that SQLite allows
-abbrev pub AreAllowed : List Entry → Type 0
-AreAllowed entries = All (λ (e : Entry). length e.payload < 2 ^ 31) entries
-
--- the leaves and the cells of the leaf under way say these rows
-pub record Says (layout : Layout) (role : Role) (base : ℕ) (laid : Laid) (entries : List Entry) : Type 0 where
-  pub whole : All (IsCell leaf_kind 4096) laid.cells
-  pub leaves : Each (IsLeaf layout.nodes) laid.leaves
-  pub read : map (leaf_entry layout.spill) (all_cells layout.nodes laid.leaves laid.cells) ≡ entries
-  pub order : InOrder layout laid
-  pub links : (k : ℕ) → 4096 * (k + 1) ≤ length laid.pages → role (number_of (base + k)) ≢ [] → IsLinked layout (all_cells layout.nodes laid.leaves laid.cells) (number_of (base + k))
-  pub chained : AreAllowed entries → Each (IsChainedCell layout) (all_cells layout.nodes laid.leaves laid.cells)
-
--- one of the leaves stands at a place
-abbrev pub IsAmong : ℕ → List Child → Type 0
-IsAmong place [] = ⊥
-IsAmong place (child ∷ leaves) = (child.place ≡ place) ⊎ IsAmong place leaves
-
-among-more : (place : ℕ) (leaves : List Child) (child : Child) → IsAmong place leaves → IsAmong place (leaves ++ child ∷ [])
-among-more place [] child is = absurd is
-among-more place (first ∷ leaves) child is = elim is [ inl here ↦ inl here | inr there ↦ inr (among-more place leaves child there) ]
-
-among-last : (place : ℕ) (leaves : List Child) (child : Child) → child.place ≡ place → IsAmong place (leaves ++ child ∷ [])
-among-last place [] child is = inl is
-among-last place (first ∷ leaves) child is = inr (among-last place leaves child is)
-
--- so many rows are laid out, and say so wherever their pages lie
-pub record Holds (base : ℕ) (laid : Laid) (count : ℕ) (entries : List Entry) : Type 0 where
-  pub whole : length laid.pages % 4096 ≡ 0
-  pub fits : 8 + 2 * length laid.cells + length (joined laid.cells) ≤ 4096
-  pub few : count ≤ length laid.pages + length laid.cells
-  pub last : laid.last ≡ count
-  pub short : All (λ (e : Entry). length e.payload ≤ length laid.pages + 4061) entries
-  pub role : Role
-  pub fresh : (number : ℕ) → number_of (next_place base laid.pages) ≤ number → role number ≡ []
-  pub leafy : (k : ℕ) → 4096 * (k + 1) ≤ length laid.pages → role (number_of (base + k)) ≡ [] → IsAmong (base + k) laid.leaves
-  pub says : (layout : Layout) → Lies layout role base laid.pages → length laid.pages < 2 ^ 50 → Says layout role base laid entries
-
-pub nothing-holds : (base : ℕ) → Holds base nothing_laid 0 []
-nothing-holds base = record {
-  whole = refl;
-  fits = omega arith;
-  few = omega arith;
-  last = refl;
-  short = All-nil (λ (e : Entry). length e.payload ≤ 0 + 4061);
-  role = λ number. [];
-  fresh = λ number past. refl;
-  leafy = λ k within is. absurd (let no : ⊥ = omega (arith, within) in no);
-  says = λ layout lies short. record {
-    whole = All-nil (IsCell leaf_kind 4096);
-    leaves = tt;
-    read = refl;
-    order = record { high = 0; leaves = refl; rows = []; cells = refl; last = refl };
-    links = λ k within is. absurd (let no : ⊥ = omega (arith, within) in no);
-    chained = λ allowed. tt;
-  };
-}
-
-spans-more : (layout : Layout) (low : ℕ) (leaves : List Child) (high : ℕ) (child : Child) (rows : List (List ℕ)) → Spans layout low leaves high →
-    map (leaf_entry layout.spill) (leaf_cells layout.nodes child) ≡ row_entries (high + 1) rows → child.last ≡ high + length rows →
-    Spans layout low (leaves ++ child ∷ []) child.last
-spans-more layout low [] high child rows spans says last =
-    (rows, says ∙ ap (λ n. row_entries (n + 1) rows) (sym spans), last ∙ ap (λ n. n + length rows) (sym spans), refl)
-spans-more layout low (first ∷ leaves) high child rows spans says last =
-    (spans.0, spans.1, spans.2, spans-more layout first.last leaves high child rows spans.3 says last)
-
-entries-more : (rowid : ℕ) (rows : List (List ℕ)) (row : List ℕ) → row_entries rowid (rows ++ row ∷ []) ≡ row_entries rowid rows ++ row_entry (rowid + length rows) row ∷ []
-entries-more rowid [] row = let e : rowid ≡ rowid + 0 = omega arith in ap (λ n. row_entry n row ∷ []) e
-entries-more rowid (first ∷ rows) row =
-    let e : rowid + 1 + length rows ≡ rowid + suc (length rows) = omega arith in
-    ap (λ es. row_entry rowid first ∷ es) (entries-more (rowid + 1) rows row) ∙ ap (λ n. row_entry rowid first ∷ row_entries (rowid + 1) rows ++ row_entry n row ∷ []) e
-
-in-more : {X : Type 0} (x : X) (xs : List X) (y : X) → IsIn x xs → IsIn x (xs ++ y ∷ [])
-in-more x [] y is = absurd is
-in-more x (z ∷ xs) y is = elim is [ inl here ↦ inl here | inr there ↦ inr (in-more x xs y there) ]
-
-in-last : {X : Type 0} (xs : List X) (y : X) → IsIn y (xs ++ y ∷ [])
-in-last [] y = inl refl
-in-last (z ∷ xs) y = inr (in-last xs y)
+use Rattle.db_reading.proofs.Saying.{AreAllowed, Holds, InOrder, IsAmong, IsChainedCell, IsLeaf, IsLinked, Says, Spans, all_cells, among-last, among-more, leaf_cells, row-says, spans-more}
 
 module _ (base : ℕ) (past : 0 < base) where
   finish-says : (layout : Layout) (laid : Laid) (count : ℕ) (entries : List Entry) (h : Holds base laid count entries) → 0 < length laid.cells →
@@ -238,10 +118,6 @@ module _ (base : ℕ) (past : 0 < base) where
     holds : Holds base laid count entries
     room : 8 + 2 * (length laid.cells + 1) + length (joined laid.cells) + size ≤ 4096
 
-  none-joined : (cells : List (List ℕ)) → length cells ≡ 0 → length (joined cells) ≡ 0
-  none-joined [] none = refl
-  none-joined (cell ∷ cells) none = absurd (let no : ⊥ = omega (arith, none) in no)
-
   -- a leaf that has no room has a cell
   full-some : (cells : List (List ℕ)) (size : ℕ) → size ≤ 4086 → 4096 < 8 + 2 * (length cells + 1) + length (joined cells) + size → 0 < length cells
   full-some [] size small full = absurd (let no : ⊥ = omega (arith, small, full) in no)
@@ -264,48 +140,6 @@ module _ (base : ℕ) (past : 0 < base) where
       8 + 2 * length (cells ++ cell ∷ []) + length (joined (cells ++ cell ∷ [])) ≤ 4096
   more-fits cells cell size is h = omega (arith, is, h, length-append cells (cell ∷ []), ap length (joined_more cells cell), length-append (joined cells) cell)
 
-  -- a row more, by its cell: its pages are those before it, or hold the rest of it
-  row-says : (layout : Layout) (role role′ : Role) (to : Laid) (pages : List ℕ) (rowid : ℕ) (row cell : List ℕ) (entries : List Entry) → rowid ≡ to.last + 1 →
-      Says layout role base to entries → SaysRow layout.spill rowid row cell → (length row < 2 ^ 31 → HasChain Table 4096 layout cell) →
-      ((k : ℕ) → 4096 * (k + 1) ≤ length pages → role′ (number_of (base + k)) ≢ [] →
-      (4096 * (k + 1) ≤ length to.pages × (role (number_of (base + k)) ≢ [])) ⊎ IsLinkOfRow Table 4096 layout.spill cell (number_of (base + k))) →
-      Says layout role′ base (record { pages = pages; leaves = to.leaves; cells = to.cells ++ cell ∷ []; last = rowid }) (entries ++ row_entry rowid row ∷ [])
-  row-says layout role role′ to pages rowid row cell entries next old new has links =
-      let before : List (List ℕ) = flat_map (leaf_cells layout.nodes) to.leaves in
-      let say : List ℕ → Entry = leaf_entry layout.spill in
-      let grown : all_cells layout.nodes to.leaves (to.cells ++ cell ∷ []) ≡ all_cells layout.nodes to.leaves to.cells ++ cell ∷ [] = sym (append_assoc before to.cells (cell ∷ [])) in
-      let count : to.last + 1 ≡ old.order.high + 1 + length old.order.rows = omega (arith, old.order.last) in
-      record {
-        whole = All-push (IsCell leaf_kind 4096) to.cells cell old.whole new.whole;
-        leaves = old.leaves;
-        read = ap (map say) grown ∙ map-append say (all_cells layout.nodes to.leaves to.cells) (cell ∷ []) ∙ ap (λ xs. xs ++ say cell ∷ []) old.read ∙ ap (λ e. entries ++ e ∷ []) new.entry;
-        order = record {
-          high = old.order.high;
-          leaves = old.order.leaves;
-          rows = old.order.rows ++ row ∷ [];
-          cells = map-append say to.cells (cell ∷ []) ∙ ap (λ xs. xs ++ say cell ∷ []) old.order.cells ∙ ap (λ e. row_entries (old.order.high + 1) old.order.rows ++ e ∷ []) new.entry
-              ∙ ap (λ n. row_entries (old.order.high + 1) old.order.rows ++ row_entry n row ∷ []) (next ∙ count) ∙ sym (entries-more (old.order.high + 1) old.order.rows row);
-          last = omega (arith, next, old.order.last, length-append old.order.rows (row ∷ []));
-        };
-        links = λ k within is.
-            subst (λ cells. IsLinked layout cells (number_of (base + k))) (sym grown)
-            (elim (links k within is) [
-              | inl front ↦
-                  let l : IsLinked layout (all_cells layout.nodes to.leaves to.cells) (number_of (base + k)) = old.links k front.0 front.1 in
-                  record { cell = l.cell; among = in-more l.cell (all_cells layout.nodes to.leaves to.cells) cell l.among; link = l.link }
-              | inr here ↦ record {
-                cell = cell;
-                among = in-last (all_cells layout.nodes to.leaves to.cells) cell;
-                link = subst (λ body. IsLinkOfRow Table 4096 layout.spill body (number_of (base + k))) (sym new.body) here;
-              }
-            ]);
-        chained = λ allowed.
-            subst (Each (IsChainedCell layout)) (sym grown)
-            (each-more (IsChainedCell layout) (all_cells layout.nodes to.leaves to.cells) cell
-            (old.chained (all-front (λ (e : Entry). length e.payload < 2 ^ 31) entries (row_entry rowid row ∷ []) allowed))
-            (subst (HasChain Table 4096 layout) (sym new.body) (has (all-last (λ (e : Entry). length e.payload < 2 ^ 31) entries (row_entry rowid row) allowed))));
-      }
-
   short-holds : (laid : Laid) (count rowid : ℕ) (row : List ℕ) (entries : List Entry) → rowid ≡ count + 1 → 1 < length row → length row ≤ 4061 → Holds base laid count entries →
       Holds base (with_short base laid rowid row) (count + 1) (entries ++ row_entry rowid row ∷ [])
   short-holds laid count rowid row entries next some few h =
@@ -323,7 +157,7 @@ module _ (base : ℕ) (past : 0 < base) where
         leafy = r.holds.leafy;
         says = λ layout lies short.
             let small : rowid < 2 ^ 56 = omega (arith, next, r.holds.few, r.holds.fits, short) in
-            row-says layout r.holds.role r.holds.role to to.pages rowid row cell entries (omega (arith, next, r.holds.last)) (r.holds.says layout lies short)
+            row-says base layout r.holds.role r.holds.role to to.pages rowid row cell entries (omega (arith, next, r.holds.last)) (r.holds.says layout lies short)
             (short-says layout.spill rowid row small few some) (λ allowed. short-chained layout rowid row small few) (λ k within is. inl (within, is));
       }
 
@@ -382,7 +216,7 @@ module _ (base : ℕ) (past : 0 < base) where
             let old : Says layout r.holds.role base to entries = r.holds.says layout front (omega (arith, longer, short)) in
             let small : rowid < 2 ^ 56 = omega (arith, next, r.holds.few, r.holds.fits, longer, short) in
             let row-short : length row < 2 ^ 56 = omega (arith, left, held, local-most (length row), longer, short) in
-            row-says layout r.holds.role role to (to.pages ++ pages) rowid row cell entries (omega (arith, next, r.holds.last)) old
+            row-says base layout r.holds.role role to (to.pages ++ pages) rowid row cell entries (omega (arith, next, r.holds.last)) old
             (long-says layout.spill place rowid row small row-short long (λ k there. (links k there).0))
             (long-chained layout place rowid row small row-short long links (omega (arith, past)))
             (λ k there is.

@@ -3,9 +3,11 @@ pub mod Standing
 pub mod Inner
 pub mod Overflow
 pub mod LeafCells
+pub mod Saying
 pub mod Leaves
 pub mod Groups
 pub mod Levels
+pub mod LeafTrees
 pub mod Trees
 pub mod Files
 pub mod Records

@@ -21,12 +21,13 @@ use Rattle.db_reading.specs.Pages.{Stand, page_at}
 use Rattle.db_reading.specs.Tables.{numbered}
 use Rattle.db_reading.specs.Whole.{HasTable, IsSpanned}
 use Rattle.db_reading.proofs.Layouts.{apart, laid-in, link-out, node-out, owned, placed, tree_layout}
-use Rattle.db_reading.proofs.Leaves.{AreAllowed, IsChainedCell, IsLinked}
+use Rattle.db_reading.proofs.Saying.{AreAllowed, IsChainedCell, IsLinked}
 use Rattle.db_reading.proofs.Levels.{form}
 use Rattle.db_reading.proofs.Records.{rowid-is}
 use Rattle.db_reading.proofs.Rising.{by_rank}
 use Rattle.db_reading.proofs.Roles.{Lies, Role}
-use Rattle.db_reading.proofs.Trees.{TreeReads, height-is, items-entries, row_item, rows-few, tree-reads, tree-role}
+use Rattle.db_reading.proofs.LeafTrees.{height-is, items-entries, row_item}
+use Rattle.db_reading.proofs.Trees.{TreeReads, rows-few, tree-reads, tree-role}
 
 module _ (order : Item → Item → Bool) (layout : Layout) where
   -- what isn't a row has no chain
