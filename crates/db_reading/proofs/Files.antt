@@ -1,9 +1,9 @@
 -- The pages of a file, of which one is that of the locks.
-use Rattle.std.proofs.Common.{◌≡◌, ℕ, suc, ◌+◌, ◌-◌, ◌*◌, ◌^◌, ◌<◌, ◌≤◌, List, [], ◌∷◌, ◌++◌, length, take, drop, replicate, sym, ◌∙◌, ap, subst, arith, inl, inr, length-append, length-drop, length-take-le, nat_le, nat_lt}
+use Rattle.std.proofs.Common.{◌≡◌, ℕ, suc, ◌+◌, ◌-◌, ◌*◌, ◌^◌, ◌<◌, ◌≤◌, List, [], ◌++◌, length, take, drop, replicate, sym, ◌∙◌, ap, subst, arith, inl, inr, length-append, length-take-le, nat_le, nat_lt}
 use Rattle.std.specs.Prelude.{Option, Some, None, unwrap_or}
-use Rattle.std.proofs.lemmas.Bool.{cases_lt, cond-true, cond-false, le-leb, le-ltb, lt-leb, lt-ltb}
+use Rattle.std.proofs.lemmas.Bool.{cases_lt, cond-true, cond-false, le-leb, le-ltb, lt-ltb}
 use Rattle.std.proofs.lemmas.List.{length-replicate, take-append-drop}
-use Rattle.sqlite_btree.specs.Part.{Part, all_pages}
+use Rattle.sqlite_btree.specs.Part.{all_pages}
 use Rattle.db_pages.specs.Image.{with_lock_page}
 use Rattle.db_pages.specs.Numbers.{number_of}
 use Rattle.db_pages.proofs.LockPage.{long_split, short_as_is, split_round}

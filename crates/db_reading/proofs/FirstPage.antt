@@ -1,14 +1,13 @@
 -- The first page of a file, as it is read.
-use Rattle.std.proofs.Common.{◌≡◌, ℕ, suc, ◌==◌, ◌||◌, ◌<◌, false, Bool, if◌then◌else◌, List, [], length, map, get_or, refl, sym, ◌∙◌, ap, arith}
+use Rattle.std.proofs.Common.{◌≡◌, ℕ, suc, ◌==◌, ◌||◌, false, if◌then◌else◌, List, [], length, map, get_or, refl, ◌∙◌, ap}
 use Rattle.sqlite_pages.specs.PageMap.{PageMap}
 use Rattle.sqlite_format.specs.declared.kind.Tree.TheVariants.{Table}
-use Rattle.sqlite_format.specs.Page.{cell_count, cell_from, cell_offset, page_cells, right_child}
-use Rattle.std.specs.List.{range_with_len}
+use Rattle.sqlite_format.specs.Page.{cell_count, cell_offset, page_cells, right_child}
 use Rattle.sqlite_btree.specs.Part.{Part, all_pages}
-use Rattle.sqlite_btree.specs.Items.{Item, rows_of}
+use Rattle.sqlite_btree.specs.Items.{rows_of}
 use Rattle.sqlite_btree.specs.Tree.{cells_of, fan_items, header_of, right_of, tree_items}
 use Rattle.sqlite_btree.specs.Chain.{Entry, entry_of}
-use Rattle.sqlite_btree.specs.Stored.{entries_at, form_of, height_from, no_order}
+use Rattle.sqlite_btree.specs.Stored.{entries_at, height_from}
 use Rattle.db_pages.specs.Image.{first_page}
 use Rattle.db_pages.specs.Numbers.{number_of}
 use Rattle.db_reading.specs.Laws.{inner_kind}

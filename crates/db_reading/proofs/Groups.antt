@@ -1,11 +1,11 @@
 -- Pages in groups.
-use Rattle.std.proofs.Common.{◌≡◌, ℕ, zero, suc, ◌+◌, ◌-◌, ◌*◌, ◌<◌, ◌≤◌, ◌⊎◌, List, [], ◌∷◌, ◌++◌, length, take, drop, flat_map, refl, sym, ◌∙◌, ap, subst, arith, inl, inr, append-nil, length-append, length-drop, length-take-le}
+use Rattle.std.proofs.Common.{◌≡◌, ℕ, zero, suc, ◌-◌, ◌*◌, ◌<◌, ◌≤◌, ◌⊎◌, List, [], ◌∷◌, ◌++◌, length, take, drop, flat_map, refl, sym, ◌∙◌, ap, subst, arith, inl, inr, append-nil, length-append, length-drop, length-take-le}
 use Rattle.std.proofs.lemmas.Bool.{cases_lt}
 use Rattle.std.proofs.lemmas.Grind.{flat_map-append}
 use Rattle.std.proofs.lemmas.List.{take-append-drop}
 use Rattle.sqlite_btree.specs.Cut.{Each}
 use Rattle.db_pages.specs.declared.child.Child.{Child}
-use Rattle.db_pages.specs.Levels.{grouped, level_children, level_pages, page_above}
+use Rattle.db_pages.specs.Levels.{grouped, level_pages, page_above}
 use Rattle.db_pages.proofs.Grouping.{grouped-last, grouped-more}
 use Rattle.db_pages.proofs.WholeTrees.{above-whole}
 use Rattle.db_reading.proofs.Each.{each-drop, each-take}

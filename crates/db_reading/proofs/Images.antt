@@ -1,5 +1,5 @@
 -- Databases, as they are read.
-use Rattle.std.proofs.Common.{◌≡◌, ℕ, zero, suc, ◌+◌, ◌-◌, ◌*◌, ◌%◌, ◌^◌, ◌<◌, ◌≤◌, ℤ, pos, List, [], ◌∷◌, ◌++◌, length, map, refl, sym, ◌∙◌, ap, subst, arith, inl, inr, length-append, nat_le, All, w64}
+use Rattle.std.proofs.Common.{◌≡◌, ℕ, zero, suc, ◌+◌, ◌-◌, ◌*◌, ◌%◌, ◌^◌, ◌<◌, ◌≤◌, pos, List, [], ◌∷◌, ◌++◌, length, map, refl, sym, ◌∙◌, ap, subst, arith, inl, inr, length-append, nat_le, All, w64}
 use Rattle.std.specs.Prelude.{codes, Option, Some, None, unwrap_or, FitsSigned}
 use Rattle.std.proofs.lemmas.Bool.{cases_lt, cond-false, lt-leb}
 use Rattle.std.proofs.lemmas.Int.{fits_signed_from_abs}
@@ -13,7 +13,7 @@ use Rattle.sqlite_btree.specs.Chain.{Entry}
 use Rattle.sqlite_btree.specs.Stored.{rowid_of}
 use Rattle.db_records.specs.Record.{IsWritable, record_bytes}
 use Rattle.db_pages.specs.Grown.{TreeBytes, tree_of}
-use Rattle.db_pages.specs.Image.{Tabled, first_page, image, image_over, imaged, listed, trees_bytes, with_lock_page}
+use Rattle.db_pages.specs.Image.{Tabled, first_page, image, image_over, listed, trees_bytes, with_lock_page}
 use Rattle.db_pages.specs.Laid.{next_place}
 use Rattle.db_pages.specs.Numbers.{number_of}
 use Rattle.db_pages.proofs.WholeTrees.{tree-whole}

@@ -1,9 +1,9 @@
 -- Pages above others, as they are read.
-use Rattle.std.proofs.Common.{◌≡◌, ℕ, suc, ◌+◌, ◌-◌, ◌*◌, ◌/◌, ◌%◌, ◌^◌, ◌<◌, false, List, [], ◌∷◌, ◌++◌, length, take, refl, sym, ◌∙◌, ap, arith, append-nil, All}
+use Rattle.std.proofs.Common.{◌≡◌, ℕ, suc, ◌+◌, ◌*◌, ◌/◌, ◌%◌, ◌^◌, ◌<◌, false, List, [], ◌∷◌, ◌++◌, length, take, refl, ◌∙◌, ap, arith, All}
 use Rattle.std.proofs.lemmas.List.{take_all}
 use Rattle.std.proofs.lemmas.List.Elements.{All-cons}
 use Rattle.sqlite_format.specs.declared.kind.Tree.TheVariants.{Table}
-use Rattle.sqlite_format.specs.Varint.{varint_len, varint_value, IsVarintOf}
+use Rattle.sqlite_format.specs.Varint.{varint_value}
 use Rattle.sqlite_format.specs.Cell.{IsCell, body_key, body_size, cell_body, cell_child, cell_size, flip_sign}
 use Rattle.sqlite_format.specs.Page.{right_child}
 use Rattle.db_records.specs.Page.{content_at}

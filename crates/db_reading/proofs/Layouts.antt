@@ -1,17 +1,16 @@
 -- The pages of a tree as a layout: nodes, and pages that hold the rest of rows.
-use Rattle.std.proofs.Common.{◌≡◌, ◌≢◌, ◌⊎◌, ℕ, zero, suc, ◌+◌, ◌-◌, ◌*◌, ◌/◌, ◌%◌, ◌<◌, ◌≤◌, ◌==◌, ◌&&◌, not, Bool, true, false, if◌then◌else◌, List, [], ◌∷◌, length, refl, sym, ◌∙◌, ap, subst, arith, inl, inr, nat_le, nat_lt}
+use Rattle.std.proofs.Common.{◌≡◌, ◌≢◌, ℕ, ◌-◌, ◌<◌, ◌≤◌, ◌==◌, ◌&&◌, not, Bool, true, false, if◌then◌else◌, List, [], ◌∷◌, length, refl, sym, ◌∙◌, ap, arith, inl, inr, nat_le, nat_lt}
 use Rattle.std.specs.Prelude.{Option, Some, None, unwrap_or}
 use Rattle.std.proofs.lemmas.Bool.{and_parts, eq-eqb, eqb-true, false≢true, le-leb, leb-true, lt-ltb, ltb-true}
 use Rattle.std.proofs.lemmas.Bool.Decides.{nat_tests}
 use Rattle.sqlite_pages.specs.PageMap.{PageMap}
-use Rattle.sqlite_btree.specs.Part.{AreApart, Part, all_pages}
+use Rattle.sqlite_btree.specs.Part.{AreApart, all_pages}
 use Rattle.sqlite_btree.specs.Chain.{Layout}
 use Rattle.sqlite_btree.specs.Stored.{IsLaidIn, Owns}
-use Rattle.db_pages.specs.Laid.{is_empty_list, next_place}
+use Rattle.db_pages.specs.Laid.{is_empty_list}
 use Rattle.db_pages.specs.Numbers.{number_of}
-use Rattle.db_reading.specs.Pages.{Stand, page_at}
 use Rattle.db_reading.specs.Whole.{IsSpanned}
-use Rattle.db_reading.proofs.Roles.{IsPlaced, Lies, Role}
+use Rattle.db_reading.proofs.Roles.{IsPlaced, Role}
 
 -- the place of a number
 abbrev place_of : ℕ → ℕ

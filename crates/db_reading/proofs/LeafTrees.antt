@@ -1,40 +1,24 @@
 -- Leaves as trees, and how high a tree is.
-use Rattle.std.proofs.Common.{◌≡◌, ◌≢◌, ◌⊎◌, ℕ, zero, suc, ◌+◌, ◌-◌, ◌*◌, ◌/◌, ◌%◌, ◌^◌, ◌<◌, ◌≤◌, ◌==◌, ◌||◌, Bool, true, false, if◌then◌else◌, List, [], ◌∷◌, ◌++◌, length, map, flat_map, refl, sym, ◌∙◌, ap, subst, arith, inl, inr, append-nil, length-append, All}
-use Rattle.std.proofs.lemmas.Bool.{cases_lt, cond-true, false≢true}
+use Rattle.std.proofs.Common.{◌≡◌, ℕ, zero, suc, ◌+◌, ◌<◌, ◌==◌, ◌||◌, Bool, true, false, if◌then◌else◌, List, [], ◌∷◌, ◌++◌, length, map, flat_map, refl, sym, ◌∙◌, ap, subst, arith, inl, inr}
 use Rattle.std.proofs.lemmas.List.{length-map, map-append}
-use Rattle.std.proofs.lemmas.List.Elements.{All-nil}
-use Rattle.sqlite_pages.specs.PageMap.{PageMap}
 use Rattle.sqlite_format.specs.declared.kind.Tree.TheVariants.{Table}
-use Rattle.sqlite_format.specs.Cell.{IsCell}
 use Rattle.sqlite_format.specs.Page.{IsPage, page_cells}
-use Rattle.sqlite_btree.specs.Part.{Part, all_pages}
-use Rattle.sqlite_btree.specs.Cut.{Ascends, Each}
+use Rattle.sqlite_btree.specs.Part.{Part}
+use Rattle.sqlite_btree.specs.Cut.{Each}
 use Rattle.sqlite_btree.specs.Items.{Item, cell_item, rows_of}
-use Rattle.sqlite_btree.specs.Tree.{IsPageOf, IsTop, IsTree, Reaches, cells_of, header_of, right_of, top_cells, tree_items}
-use Rattle.sqlite_btree.specs.Chain.{Entry, Layout, entry_of}
-use Rattle.sqlite_btree.specs.Stored.{entries_at, form_of, height_from, no_order}
+use Rattle.sqlite_btree.specs.Tree.{IsPageOf, IsTop, IsTree, cells_of, header_of, right_of, top_cells, tree_items}
+use Rattle.sqlite_btree.specs.Chain.{Layout, entry_of}
+use Rattle.sqlite_btree.specs.Stored.{height_from}
 use Rattle.sqlite_btree.proofs.TreeLemmas.{EachChild-last, header_of_other}
-use Rattle.db_records.specs.Laws.{HoldsCells, leaf_kind}
-use Rattle.db_records.specs.Page.{leaf_page}
-use Rattle.db_records.proofs.Pages.{leaf-holds, length-leaf_page}
+use Rattle.db_records.specs.Laws.{leaf_kind}
 use Rattle.db_pages.specs.declared.child.Child.{Child}
-use Rattle.db_pages.specs.Grown.{Grown, TreeBytes, grown, tree_of, tree_over, with_leaf}
-use Rattle.db_pages.specs.Laid.{Laid, ended, is_empty_list, next_place, nothing_laid, with_rows}
-use Rattle.db_pages.specs.Levels.{levels_pages, root_place}
 use Rattle.db_pages.specs.Numbers.{number_of}
-use Rattle.db_pages.proofs.Closed.{some_leaf}
-use Rattle.db_pages.proofs.Counted.{AllShort, Adds, Counts, end-counts, nothing-counts, rows-add}
 use Rattle.db_reading.specs.Entries.{row_entries}
-use Rattle.db_reading.specs.Pages.{Stand}
-use Rattle.db_reading.proofs.Each.{each-so}
 use Rattle.db_reading.proofs.Groups.{Some-of}
 use Rattle.db_reading.proofs.LeafCells.{leaf_entry}
-use Rattle.db_reading.proofs.Saying.{AreAllowed, Holds, IsAmong, IsChainedCell, IsLeaf, IsLinked, Says, Spans, all_cells, leaf_cells}
-use Rattle.db_reading.proofs.Leaves.{end-holds, none-left, rows-hold}
-use Rattle.db_reading.proofs.Levels.{Heads, Reached, Root, form, levels-root, past-first, rows_under}
-use Rattle.db_reading.proofs.Rising.{IsRising, Rise, by_rank, edge, item_rank, leaf-rises}
-use Rattle.db_reading.proofs.Roles.{IsPlaced, Lies, Role}
-use Rattle.db_reading.proofs.Standing.{each-front, each-next, each-page, number-least}
+use Rattle.db_reading.proofs.Saying.{IsAmong, IsLeaf, Spans, leaf_cells}
+use Rattle.db_reading.proofs.Levels.{Heads, Reached, form, past-first, rows_under}
+use Rattle.db_reading.proofs.Rising.{IsRising, Rise, edge, item_rank, leaf-rises}
 
 module _ (order : Item → Item → Bool) (part : Part) where
   pub tree-top : (height page : ℕ) → IsTree (form order part) part height page → IsTop (form order part) part height page

@@ -1,32 +1,31 @@
 -- Leaves of rows, as they are read.
-use Rattle.std.proofs.Common.{◌≡◌, ◌≢◌, ◌⊎◌, ℕ, zero, suc, ◌+◌, ◌-◌, ◌*◌, ◌/◌, ◌%◌, ◌^◌, ◌<◌, ◌≤◌, ◌==◌, Bool, true, false, if◌then◌else◌, List, [], ◌∷◌, ◌++◌, length, drop, map, flat_map, refl, sym, ◌∙◌, ap, subst, arith, inl, inr, append_assoc, append-nil, length-append, length-drop, nat_le, All}
+use Rattle.std.proofs.Common.{◌≡◌, ◌≢◌, ℕ, ◌+◌, ◌-◌, ◌*◌, ◌/◌, ◌%◌, ◌^◌, ◌<◌, ◌≤◌, ◌==◌, Bool, true, false, if◌then◌else◌, List, [], ◌∷◌, ◌++◌, length, drop, map, flat_map, refl, sym, ◌∙◌, ap, subst, arith, inl, inr, append_assoc, append-nil, length-append, length-drop, nat_le, All}
 use Rattle.std.proofs.lemmas.Bool.{cases_lt, cond-true, cond-false, le-leb, lt-leb, false≢true}
-use Rattle.std.proofs.lemmas.List.{flat_map_more, map-append}
+use Rattle.std.proofs.lemmas.List.{flat_map_more}
 use Rattle.std.proofs.lemmas.List.Elements.{All-head, All-nil, All-push, All-tail}
 use Rattle.sqlite_format.specs.declared.kind.Tree.TheVariants.{Table}
-use Rattle.sqlite_format.specs.Cell.{IsCell, cell_body, local_len}
+use Rattle.sqlite_format.specs.Cell.{IsCell, local_len}
 use Rattle.sqlite_format.specs.Page.{IsPage, page_cells}
-use Rattle.sqlite_btree.specs.Part.{Part}
-use Rattle.sqlite_btree.specs.Cut.{Each, IsIn}
-use Rattle.sqlite_btree.specs.Chain.{Entry, HasChain, IsLinkOfRow, Layout}
+use Rattle.sqlite_btree.specs.Cut.{Each}
+use Rattle.sqlite_btree.specs.Chain.{Entry, IsLinkOfRow, Layout}
 use Rattle.db_records.specs.Cell.{cell_bytes}
 use Rattle.db_records.specs.Laws.{HoldsCells, leaf_kind}
 use Rattle.db_records.specs.Page.{joined, leaf_page}
 use Rattle.db_records.proofs.Pages.{leaf-holds, length-leaf_page}
 use Rattle.db_pages.specs.declared.child.Child.{Child}
-use Rattle.db_pages.specs.Laid.{Laid, chain, ended, finished, is_empty_list, long_cell, next_place, nothing_laid, roomy, with_long, with_row, with_rows, with_short}
+use Rattle.db_pages.specs.Laid.{Laid, chain, ended, finished, is_empty_list, long_cell, next_place, roomy, with_long, with_row, with_rows, with_short}
 use Rattle.db_pages.specs.Numbers.{number_of}
 use Rattle.db_pages.proofs.Chains.{long_cell_size}
 use Rattle.db_pages.proofs.Cuts.{joined_more}
 use Rattle.db_pages.proofs.Sizes.{chain-whole, local-most, local-within, long-size, short-size}
 use Rattle.db_reading.specs.Entries.{row_entries, row_entry}
 use Rattle.db_reading.specs.Pages.{EachPage, page_at}
-use Rattle.db_reading.proofs.Each.{all-front, all-last, each-more}
-use Rattle.db_reading.proofs.LeafCells.{SaysRow, leaf_entry, long-chained, long-linked, long-says, short-chained, short-says}
+use Rattle.db_reading.proofs.Each.{each-more}
+use Rattle.db_reading.proofs.LeafCells.{leaf_entry, long-chained, long-linked, long-says, short-chained, short-says}
 use Rattle.db_reading.proofs.Overflow.{IsLink, chain-holds, local-some, long-some}
 use Rattle.db_reading.proofs.Roles.{IsPlaced, Lies, Role, given, given-before, given-behind, given-in}
 use Rattle.db_reading.proofs.Standing.{each-front, each-next, each-page, number-least, number-up}
-use Rattle.db_reading.proofs.Saying.{AreAllowed, Holds, InOrder, IsAmong, IsChainedCell, IsLeaf, IsLinked, Says, Spans, all_cells, among-last, among-more, leaf_cells, row-says, spans-more}
+use Rattle.db_reading.proofs.Saying.{Holds, IsChainedCell, IsLeaf, IsLinked, Says, all_cells, among-last, among-more, leaf_cells, row-says, spans-more}
 
 module _ (base : ℕ) (past : 0 < base) where
   finish-says : (layout : Layout) (laid : Laid) (count : ℕ) (entries : List Entry) (h : Holds base laid count entries) → 0 < length laid.cells →

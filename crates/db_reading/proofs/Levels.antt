@@ -3,7 +3,6 @@ use Rattle.std.proofs.Common.{◌≡◌, ℕ, zero, suc, ◌+◌, ◌-◌, ◌*�
 use Rattle.std.proofs.lemmas.Bool.{cases_lt, cond-false, lt-leb}
 use Rattle.std.proofs.lemmas.Bool.Decides.{nat_tests}
 use Rattle.sqlite_format.specs.declared.kind.Tree.TheVariants.{Table}
-use Rattle.sqlite_format.specs.Cell.{cell_child}
 use Rattle.sqlite_format.specs.Page.{IsPage, page_cells, right_child}
 use Rattle.sqlite_btree.specs.Part.{Part}
 use Rattle.sqlite_btree.specs.Cut.{Ascends, Each}
@@ -23,7 +22,7 @@ use Rattle.db_reading.proofs.Each.{each-all, each-so}
 use Rattle.db_reading.proofs.Groups.{AreGroups, IsGroup, Some-of, are-groups, grouped-some, level-size, some-groups}
 use Rattle.db_reading.proofs.Inner.{divider-child, page-reads}
 use Rattle.db_reading.proofs.Rising.{AllRise, IsRising, Rise, by_rank, edge, fan-rises, groups-rise, item_rank, rising-ascends}
-use Rattle.db_reading.proofs.Standing.{stand-back, stand-front, stand-one, stand-page}
+use Rattle.db_reading.proofs.Standing.{stand-back, stand-front, stand-one}
 
 pub past-first : (place : ℕ) → 0 < place → 1 < number_of place
 past-first place some = grind (arith, nat_tests)

@@ -1,9 +1,7 @@
 -- Records of rows, as they are read.
-use Rattle.std.proofs.Common.{◌≡◌, ℕ, suc, ◌+◌, ◌*◌, ◌^◌, ◌<◌, ◌≤◌, ℤ, pos, List, [], ◌∷◌, ◌++◌, length, map, flat_map, refl, ◌∙◌, ap, arith, length-append, All, w64, to_z}
+use Rattle.std.proofs.Common.{◌≡◌, ℕ, ◌+◌, ◌*◌, ◌^◌, ◌<◌, ◌≤◌, ℤ, pos, List, [], ◌∷◌, length, map, flat_map, refl, ◌∙◌, ap, arith, length-append, All, w64, to_z}
 use Rattle.std.proofs.lemmas.Int.{to_z_pos}
 use Rattle.std.proofs.lemmas.List.Elements.{All-cons, All-head, All-nil, All-tail}
-use Rattle.sqlite_value.specs.declared.value.Value.{Value}
-use Rattle.sqlite_value.specs.declared.value.Value.TheVariants.{Null, Int, Real, Text, Blob}
 use Rattle.sqlite_value.specs.Order.{Row}
 use Rattle.sqlite_record.specs.Record.{decode}
 use Rattle.sqlite_record.specs.Serial.{serial_of}
@@ -11,8 +9,7 @@ use Rattle.sqlite_format.specs.Cell.{flip_sign}
 use Rattle.sqlite_format.proofs.CellLemmas.{flip_sign-flip_sign}
 use Rattle.sqlite_btree.specs.Chain.{Entry}
 use Rattle.sqlite_btree.specs.Stored.{rowid_of}
-use Rattle.db_records.specs.Record.{IsWritable, header_size, record_bytes, type_bytes, value_bytes}
-use Rattle.db_records.specs.Varint.{varint}
+use Rattle.db_records.specs.Record.{header_size, record_bytes, type_bytes}
 use Rattle.db_records.proofs.Records.{record-reads-back, record-size}
 use Rattle.db_records.proofs.Varints.{varint-size}
 use Rattle.db_pages.proofs.Sizes.{varint-short}

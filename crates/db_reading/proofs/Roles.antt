@@ -1,5 +1,5 @@
 -- Which pages are nodes of a tree, and which hold the rest of a row.
-use Rattle.std.proofs.Common.{◌≡◌, ◌≢◌, ℕ, ◌+◌, ◌<◌, ◌≤◌, if◌then◌else◌, List, [], ◌∙◌, subst, sym, nat_lt}
+use Rattle.std.proofs.Common.{◌≡◌, ◌≢◌, ℕ, ◌<◌, ◌≤◌, if◌then◌else◌, List, [], ◌∙◌, nat_lt}
 use Rattle.std.proofs.lemmas.Bool.{cond-true, cond-false, le-ltb, lt-ltb}
 use Rattle.sqlite_btree.specs.Chain.{Layout}
 use Rattle.db_reading.specs.Pages.{EachPage}

@@ -1,31 +1,22 @@
 -- What rows that are laid out say to a reader.
-use Rattle.std.proofs.Common.{◌≡◌, ◌≢◌, ◌⊎◌, ℕ, zero, suc, ◌+◌, ◌-◌, ◌*◌, ◌/◌, ◌%◌, ◌^◌, ◌<◌, ◌≤◌, ◌==◌, Bool, true, false, if◌then◌else◌, List, [], ◌∷◌, ◌++◌, length, drop, map, flat_map, refl, sym, ◌∙◌, ap, subst, arith, inl, inr, append_assoc, append-nil, length-append, length-drop, nat_le, All}
-use Rattle.std.proofs.lemmas.Bool.{cases_lt, cond-true, cond-false, le-leb, lt-leb, false≢true}
-use Rattle.std.proofs.lemmas.List.{flat_map_more, map-append}
-use Rattle.std.proofs.lemmas.List.Elements.{All-head, All-nil, All-push, All-tail}
+use Rattle.std.proofs.Common.{◌≡◌, ◌≢◌, ◌⊎◌, ℕ, suc, ◌+◌, ◌*◌, ◌%◌, ◌^◌, ◌<◌, ◌≤◌, List, [], ◌∷◌, ◌++◌, length, map, flat_map, refl, sym, ◌∙◌, ap, subst, arith, inl, inr, append_assoc, length-append, All}
+use Rattle.std.proofs.lemmas.List.{map-append}
+use Rattle.std.proofs.lemmas.List.Elements.{All-nil, All-push}
 use Rattle.sqlite_format.specs.declared.kind.Tree.TheVariants.{Table}
-use Rattle.sqlite_format.specs.Cell.{IsCell, cell_body, local_len}
+use Rattle.sqlite_format.specs.Cell.{IsCell, cell_body}
 use Rattle.sqlite_format.specs.Page.{IsPage, page_cells}
 use Rattle.sqlite_btree.specs.Part.{Part}
 use Rattle.sqlite_btree.specs.Cut.{Each, IsIn}
 use Rattle.sqlite_btree.specs.Chain.{Entry, HasChain, IsLinkOfRow, Layout}
-use Rattle.db_records.specs.Cell.{cell_bytes}
-use Rattle.db_records.specs.Laws.{HoldsCells, leaf_kind}
-use Rattle.db_records.specs.Page.{joined, leaf_page}
-use Rattle.db_records.proofs.Pages.{leaf-holds, length-leaf_page}
+use Rattle.db_records.specs.Laws.{leaf_kind}
+use Rattle.db_records.specs.Page.{joined}
 use Rattle.db_pages.specs.declared.child.Child.{Child}
-use Rattle.db_pages.specs.Laid.{Laid, chain, ended, finished, is_empty_list, long_cell, next_place, nothing_laid, roomy, with_long, with_row, with_rows, with_short}
+use Rattle.db_pages.specs.Laid.{Laid, next_place, nothing_laid}
 use Rattle.db_pages.specs.Numbers.{number_of}
-use Rattle.db_pages.proofs.Chains.{long_cell_size}
-use Rattle.db_pages.proofs.Cuts.{joined_more}
-use Rattle.db_pages.proofs.Sizes.{chain-whole, local-most, local-within, long-size, short-size}
 use Rattle.db_reading.specs.Entries.{row_entries, row_entry}
-use Rattle.db_reading.specs.Pages.{EachPage, page_at}
 use Rattle.db_reading.proofs.Each.{all-front, all-last, each-more}
-use Rattle.db_reading.proofs.LeafCells.{SaysRow, leaf_entry, long-chained, long-linked, long-says, short-chained, short-says}
-use Rattle.db_reading.proofs.Overflow.{IsLink, chain-holds, local-some, long-some}
-use Rattle.db_reading.proofs.Roles.{IsPlaced, Lies, Role, given, given-before, given-behind, given-in}
-use Rattle.db_reading.proofs.Standing.{each-front, each-next, each-page, number-least, number-up}
+use Rattle.db_reading.proofs.LeafCells.{SaysRow, leaf_entry}
+use Rattle.db_reading.proofs.Roles.{Lies, Role}
 
 -- a leaf that isn't empty, and not on the first page
 pub record IsLeaf (nodes : Part) (child : Child) : Type 0 where

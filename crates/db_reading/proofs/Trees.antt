@@ -1,7 +1,6 @@
 -- Trees of rows, as they are read.
-use Rattle.std.proofs.Common.{◌≡◌, ◌≢◌, ◌⊎◌, ℕ, zero, suc, ◌+◌, ◌-◌, ◌*◌, ◌/◌, ◌%◌, ◌^◌, ◌<◌, ◌≤◌, ◌==◌, ◌||◌, Bool, true, false, if◌then◌else◌, List, [], ◌∷◌, ◌++◌, length, map, flat_map, refl, sym, ◌∙◌, ap, subst, arith, inl, inr, append-nil, length-append, All}
+use Rattle.std.proofs.Common.{◌≡◌, ◌≢◌, ◌⊎◌, ℕ, ◌+◌, ◌-◌, ◌*◌, ◌/◌, ◌^◌, ◌<◌, ◌≤◌, Bool, true, false, List, [], ◌∷◌, ◌++◌, length, map, flat_map, refl, sym, ◌∙◌, ap, subst, arith, inl, inr, append-nil, length-append, All}
 use Rattle.std.proofs.lemmas.Bool.{cases_lt, cond-true, false≢true}
-use Rattle.std.proofs.lemmas.List.{length-map, map-append}
 use Rattle.std.proofs.lemmas.List.Elements.{All-nil}
 use Rattle.sqlite_pages.specs.PageMap.{PageMap}
 use Rattle.sqlite_format.specs.declared.kind.Tree.TheVariants.{Table}
@@ -9,11 +8,11 @@ use Rattle.sqlite_format.specs.Cell.{IsCell}
 use Rattle.sqlite_format.specs.Page.{IsPage, page_cells}
 use Rattle.sqlite_btree.specs.Part.{Part, all_pages}
 use Rattle.sqlite_btree.specs.Cut.{Ascends, Each}
-use Rattle.sqlite_btree.specs.Items.{Item, cell_item, rows_of}
-use Rattle.sqlite_btree.specs.Tree.{IsPageOf, IsTop, IsTree, Reaches, cells_of, header_of, right_of, top_cells, tree_items}
+use Rattle.sqlite_btree.specs.Items.{Item, rows_of}
+use Rattle.sqlite_btree.specs.Tree.{IsPageOf, IsTop, Reaches, cells_of, header_of, top_cells, tree_items}
 use Rattle.sqlite_btree.specs.Chain.{Entry, Layout, entry_of}
-use Rattle.sqlite_btree.specs.Stored.{entries_at, form_of, height_from, no_order}
-use Rattle.sqlite_btree.proofs.TreeLemmas.{EachChild-last, header_of_other}
+use Rattle.sqlite_btree.specs.Stored.{entries_at, form_of, no_order}
+use Rattle.sqlite_btree.proofs.TreeLemmas.{header_of_other}
 use Rattle.db_records.specs.Laws.{HoldsCells, leaf_kind}
 use Rattle.db_records.specs.Page.{leaf_page}
 use Rattle.db_records.proofs.Pages.{leaf-holds, length-leaf_page}
@@ -27,12 +26,11 @@ use Rattle.db_pages.proofs.Counted.{AllShort, Adds, Counts, end-counts, nothing-
 use Rattle.db_reading.specs.Entries.{row_entries}
 use Rattle.db_reading.specs.Pages.{Stand}
 use Rattle.db_reading.proofs.Each.{each-so}
-use Rattle.db_reading.proofs.Groups.{Some-of}
 use Rattle.db_reading.proofs.LeafCells.{leaf_entry}
-use Rattle.db_reading.proofs.Saying.{AreAllowed, Holds, IsAmong, IsChainedCell, IsLeaf, IsLinked, Says, Spans, all_cells, leaf_cells, nothing-holds}
+use Rattle.db_reading.proofs.Saying.{AreAllowed, Holds, IsAmong, IsChainedCell, IsLeaf, IsLinked, Says, all_cells, leaf_cells, nothing-holds}
 use Rattle.db_reading.proofs.Leaves.{end-holds, none-left, rows-hold}
-use Rattle.db_reading.proofs.Levels.{Heads, Reached, Root, form, levels-root, past-first, rows_under}
-use Rattle.db_reading.proofs.Rising.{IsRising, Rise, by_rank, edge, item_rank, leaf-rises}
+use Rattle.db_reading.proofs.Levels.{Heads, Root, form, levels-root, past-first}
+use Rattle.db_reading.proofs.Rising.{by_rank}
 use Rattle.db_reading.proofs.Roles.{IsPlaced, Lies, Role}
 use Rattle.db_reading.proofs.Standing.{each-front, each-next, each-page, number-least}
 use Rattle.db_reading.proofs.LeafTrees.{among-some, height-is, items-entries, leaf-heads, leaves-items, leaves-rise, row_item, top-full, tree-top}

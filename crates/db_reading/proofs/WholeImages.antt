@@ -1,18 +1,16 @@
 -- Databases that are whole.
-use Rattle.std.proofs.Common.{◌≡◌, ◌⊎◌, ℕ, zero, suc, ◌+◌, ◌-◌, ◌*◌, ◌/◌, ◌%◌, ◌^◌, ◌<◌, ◌≤◌, ℤ, pos, List, [], ◌∷◌, ◌++◌, length, map, flat_map, refl, sym, ◌∙◌, ap, subst, arith, inl, inr, length-append, nat_le, All, w64}
-use Rattle.std.specs.Prelude.{codes, IsSome, Option, Some, None, FitsSigned}
+use Rattle.std.proofs.Common.{◌≡◌, ◌⊎◌, ℕ, zero, suc, ◌+◌, ◌-◌, ◌*◌, ◌^◌, ◌<◌, ◌≤◌, pos, List, [], ◌∷◌, ◌++◌, length, map, flat_map, sym, ◌∙◌, ap, subst, arith, inl, inr, length-append, nat_le, All, w64}
+use Rattle.std.specs.Prelude.{IsSome, Option, Some, None, FitsSigned}
 use Rattle.std.proofs.lemmas.Bool.{cases_lt, cond-false, lt-leb}
-use Rattle.std.proofs.lemmas.Bool.Decides.{nat_tests}
 use Rattle.std.proofs.lemmas.Int.{fits_signed_from_abs}
 use Rattle.std.proofs.lemmas.List.Elements.{All-cons, All-head, All-nil, All-tail}
 use Rattle.sqlite_pages.specs.PageMap.{PageMap}
-use Rattle.sqlite_value.specs.declared.value.Value.TheVariants.{Int, Text}
+use Rattle.sqlite_value.specs.declared.value.Value.TheVariants.{Int}
 use Rattle.sqlite_value.specs.Order.{Row}
 use Rattle.sqlite_record.specs.Record.{IsBodyOf}
 use Rattle.sqlite_record.proofs.SerialLemmas.{int_body, int_size}
 use Rattle.sqlite_format.specs.Page.{right_child}
-use Rattle.sqlite_btree.specs.Part.{Part, all_pages}
-use Rattle.sqlite_btree.specs.Tree.{right_of}
+use Rattle.sqlite_btree.specs.Part.{all_pages}
 use Rattle.db_records.specs.Record.{header_size, record_bytes, type_bytes, value_bytes}
 use Rattle.db_records.proofs.Records.{record-size}
 use Rattle.db_pages.specs.Grown.{TreeBytes, tree_of}

@@ -1,18 +1,16 @@
 -- Trees that are whole.
-use Rattle.std.proofs.Common.{◌≡◌, ◌≢◌, ◌⊎◌, ℕ, zero, suc, ◌+◌, ◌-◌, ◌*◌, ◌/◌, ◌%◌, ◌^◌, ◌<◌, ◌≤◌, ◌↔◌, ℤ, pos, Bool, true, false, List, [], ◌∷◌, ◌++◌, length, map, take, drop, refl, sym, ◌∙◌, ap, subst, arith, inl, inr, length-drop, length-take-le, All}
+use Rattle.std.proofs.Common.{◌≡◌, ℕ, ◌+◌, ◌-◌, ◌*◌, ◌^◌, ◌<◌, ◌≤◌, pos, Bool, true, false, List, [], ◌∷◌, length, map, drop, refl, sym, ◌∙◌, ap, subst, arith, inl, inr, length-drop, length-take-le, All}
 use Rattle.std.proofs.lemmas.List.Elements.{All-cons, All-head, All-nil, All-tail}
 use Rattle.sqlite_pages.specs.PageMap.{PageMap}
 use Rattle.sqlite_format.specs.declared.kind.Tree.TheVariants.{Table}
-use Rattle.sqlite_format.specs.Cell.{cell_body, flip_sign}
-use Rattle.sqlite_btree.specs.Part.{Part, all_pages}
+use Rattle.sqlite_btree.specs.Part.{all_pages}
 use Rattle.sqlite_btree.specs.Cut.{Each, IsIn}
-use Rattle.sqlite_btree.specs.Items.{Item, body_of, is_row, item, rows_of}
-use Rattle.sqlite_btree.specs.Tree.{IsRoot, IsTop, Reaches, tree_items}
-use Rattle.sqlite_btree.specs.Chain.{Entry, HasChain, IsChained, IsLinkAmong, Layout, entry_of}
-use Rattle.sqlite_btree.specs.Stored.{IsStored, IsTable, IsTight, Owns, as_row, height_from, no_order, unordered}
+use Rattle.sqlite_btree.specs.Items.{Item, item, rows_of}
+use Rattle.sqlite_btree.specs.Tree.{IsTop, Reaches, tree_items}
+use Rattle.sqlite_btree.specs.Chain.{Entry, IsChained, IsLinkAmong, Layout, entry_of}
+use Rattle.sqlite_btree.specs.Stored.{IsStored, IsTight, Owns, as_row, no_order, unordered}
 use Rattle.sqlite_btree.proofs.CutLemmas.{from_rows}
-use Rattle.db_records.specs.Laws.{leaf_kind}
-use Rattle.db_pages.specs.Grown.{TreeBytes, tree_of}
+use Rattle.db_pages.specs.Grown.{tree_of}
 use Rattle.db_pages.specs.Laid.{next_place}
 use Rattle.db_pages.specs.Numbers.{number_of}
 use Rattle.db_pages.proofs.WholeTrees.{tree-whole}

@@ -1,5 +1,5 @@
 -- Pages that are written read back, by the reader of the kit's own crates.
-use Rattle.std.specs.Prelude.{◌≡◌, ℕ, ◌+◌, ◌*◌, ◌<◌, ◌≤◌, ◌^◌, false, true, List, [], ◌∷◌, ◌++◌, drop, length, map, All}
+use Rattle.std.specs.Prelude.{◌≡◌, ℕ, ◌<◌, ◌^◌, false, List, ◌++◌, drop, length, All}
 use Rattle.sqlite_format.specs.declared.kind.Kind.{Kind}
 use Rattle.sqlite_format.specs.declared.kind.Tree.TheVariants.{Table}
 use Rattle.sqlite_format.specs.Cell.{IsCell, body_key, cell_body, cell_child, flip_sign, local_len}

@@ -1,5 +1,5 @@
 -- Pages where a reader of the format finds them (SQLite, "Database File Format", sections 1.2 and 1.3).
-use Rattle.std.specs.Prelude.{◌≡◌, ℕ, zero, suc, ◌+◌, ◌*◌, ◌≤◌, List, length, take, drop, nat_le, Option, Some, None, if◌then◌else◌}
+use Rattle.std.specs.Prelude.{◌≡◌, ℕ, zero, suc, ◌+◌, ◌*◌, ◌≤◌, List, length, take, drop, nat_le, Some, None, if◌then◌else◌}
 use Rattle.sqlite_pages.specs.PageMap.{PageMap}
 use Rattle.sqlite_btree.specs.Part.{Part}
 use Rattle.db_pages.specs.Numbers.{number_of}
