@@ -15,9 +15,9 @@ use Rattle.file_list.specs.declared.batch.FileBook.{FileBook}
 use Rattle.db_records.specs.Record.{IsWritable}
 use Rattle.db_pages.specs.Image.{Tabled}
 use Rattle.db_writer.specs.Database.{database, database_tables, errors_table, rows_table, scans_table}
-use Rattle.db_writer.specs.Rejects.{reject_row, reject_rows, scan_row, scan_rows}
+use Rattle.db_writer.specs.Rejects.{AreCounted, reject_row, reject_rows, scan_row, scan_rows}
 use Rattle.db_writer.specs.Stored.{stored_cell, stored_row, stored_value}
-use Rattle.db_reading.specs.Database.{AreCounted, IsTableRow}
+use Rattle.db_reading.specs.Database.{IsTableRow}
 use Rattle.db_reading.specs.Tables.{HoldsTables, IsStorable}
 use Rattle.db_reading.specs.Whole.{IsAllowed, IsWholeDatabase}
 use Rattle.db_reading.proofs.Images.{image-holds}

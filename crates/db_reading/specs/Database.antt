@@ -4,9 +4,8 @@ use Rattle.value_types.specs.Datum.{Datum}
 use Rattle.csv_sniffer.specs.declared.found.Sniffed.{Sniffed}
 use Rattle.csv_writer.specs.Writable.{IsWritableRow}
 use Rattle.file_list.specs.declared.batch.FileBook.{FileBook}
-use Rattle.db_records.specs.Record.{IsWritable}
 use Rattle.db_writer.specs.Database.{database, database_tables}
-use Rattle.db_writer.specs.Rejects.{reject_rows, scan_rows}
+use Rattle.db_writer.specs.Rejects.{AreCounted}
 use Rattle.db_reading.specs.Tables.{HoldsTables}
 use Rattle.db_reading.specs.Whole.{IsAllowed, IsWholeDatabase}
 
@@ -15,11 +14,6 @@ pub record IsTableRow (cells : List Datum) : Type 0 where
   pub some : 0 < length cells
   pub few : length cells ≤ 32767
   pub writable : IsWritableRow cells
-
--- the numbers of scans and rejects are ones of 64 bits with a sign
-pub record AreCounted (s : Sniffed) (files : List FileBook) : Type 0 where
-  pub scans : All (All IsWritable) (scan_rows s 0 files)
-  pub rejects : All (All IsWritable) (reject_rows files)
 
 -- under the first root stand the rows of the table, under the second the scans, under the third the rejects
 abbrev pub DatabaseHoldsTable : Type 0

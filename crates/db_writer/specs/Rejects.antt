@@ -1,5 +1,5 @@
 -- Scans and rejects as rows of a database (the columns are those of DuckDB's manual, "Reading Faulty CSV Files", `reject_scans` and `reject_errors`).
-use Rattle.std.specs.Prelude.{ℕ, ◌+◌, pos, List, [], ◌∷◌, codes, length, map, flat_map}
+use Rattle.std.specs.Prelude.{ℕ, ◌+◌, pos, List, [], ◌∷◌, codes, length, map, flat_map, All}
 use Rattle.std.specs.Option.{option_to_list}
 use Rattle.sqlite_value.specs.declared.value.Value.TheVariants.{Int, Text}
 use Rattle.sqlite_value.specs.Order.{Row}
@@ -10,6 +10,7 @@ use Rattle.csv_sniffer.specs.declared.found.Sniffed.{Sniffed}
 use Rattle.reject_book.specs.declared.reject.Reject.{Reject}
 use Rattle.reject_book.specs.Kind.{name_of_kind}
 use Rattle.file_list.specs.declared.batch.FileBook.{FileBook}
+use Rattle.db_records.specs.Record.{IsWritable}
 use Rattle.db_writer.specs.Stored.{text_or_blob}
 
 -- the bytes of a line end, or what stands in their place
@@ -39,3 +40,8 @@ scan_rows s file_id (file ∷ files) = scan_row s file_id file.name ∷ scan_row
 -- the stored rejects of files
 abbrev pub reject_rows : List FileBook → List Row
 reject_rows files = flat_map (λ file. map reject_row file.book.stored) files
+
+-- the numbers of scans and rejects are ones of 64 bits with a sign
+pub record AreCounted (s : Sniffed) (files : List FileBook) : Type 0 where
+  pub scans : All (All IsWritable) (scan_rows s 0 files)
+  pub rejects : All (All IsWritable) (reject_rows files)

@@ -4,6 +4,8 @@ ghost use Rattle.csv_writer.specs.Writable.{IsWritableRow};
 ghost use Rattle.db_pages.specs.Grown.{closed, grown, tree_over};
 ghost use Rattle.db_pages.specs.Image.{with_table};
 ghost use Rattle.db_writer.specs.Written.{records_of};
+ghost use Rattle.db_records.specs.Record.{IsWritable};
+ghost use Rattle.db_writer.specs.Rejects.{AreCounted, reject_rows, scan_rows};
 ghost use Rattle.db_writer.specs.Database.{database, errors_table, rows_table, scans_table, with_tabled};
 
 use crate::definitions::{create_text, errors_text, scans_text};
@@ -85,6 +87,7 @@ fn push_scans_table(
     files: &[FileBook],
 ) -> Result<(), NoMemory>
     ensures ok { OnOk result (image.new ≡ with_tabled image.old (scans_table sniffed.now files.now)) }
+    ensures counted { OnOk result (All (All IsWritable) (scan_rows sniffed.now 0 files.now)) }
 {
     let mut writer = RowWriter::new(alloc, image.next_place(), 1);
     push_scans(&mut writer, sniffed, files)?;
@@ -100,6 +103,7 @@ fn push_scans_table(
 /// Appends the table of the rejects.
 fn push_errors_table(alloc: Global, image: &mut Image, files: &[FileBook]) -> Result<(), NoMemory>
     ensures ok { OnOk result (image.new ≡ with_tabled image.old (errors_table files.now)) }
+    ensures counted { OnOk result (All (All IsWritable) (reject_rows files.now)) }
 {
     let mut writer = RowWriter::new(alloc, image.next_place(), 1);
     push_rejects(&mut writer, files)?;
@@ -130,6 +134,7 @@ pub fn write_database<R: Threads + Sync>(
     requires writable { All IsWritableRow rows.now.rows }
     ensures value { IfOk result (λ text. text ≡ database table.now sniffed.now rows.now.rows files.now) }
     ensures few { IfOk result (λ text. length text < 2 ^ 44) }
+    ensures counted { IfOk result (λ _. AreCounted sniffed.now files.now) }
 {
     tables_follow();
     let mut image = Image::new(alloc);

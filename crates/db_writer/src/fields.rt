@@ -1,6 +1,6 @@
 // Rows of some values each.
-ghost use Rattle.std.specs.Prelude.{◌≡◌, ◌∷◌, [], map, OnOk};
-ghost use Rattle.db_records.specs.Record.{record_bytes};
+ghost use Rattle.std.specs.Prelude.{◌≡◌, ◌∷◌, [], map, All, OnOk};
+ghost use Rattle.db_records.specs.Record.{IsWritable, record_bytes};
 ghost use Rattle.db_writer.specs.Field.{field_value};
 ghost use Rattle.db_writer.specs.Written.{no_values, with_records, with_value};
 
@@ -22,6 +22,7 @@ pub(crate) enum Field<'a> {
 /// Appends a value.
 fn push_field(writer: &mut RowWriter, field: Field<'_>) -> Result<(), NoMemory>
     ensures ok { OnOk result (writer.new ≡ with_value writer.old (field_value field.entry)) }
+    ensures counted { OnOk result (IsWritable (field_value field.entry)) }
 {
     match field {
         Field::Number(number) => writer.push_count(number),
@@ -36,6 +37,7 @@ fn push_field(writer: &mut RowWriter, field: Field<'_>) -> Result<(), NoMemory>
 pub(crate) fn push_fields(writer: &mut RowWriter, fields: &[Field<'_>]) -> Result<(), NoMemory>
     requires none { writer.old.values ≡ no_values }
     ensures ok { OnOk result (writer.new ≡ with_records writer.old (record_bytes (map field_value fields.now) ∷ [])) }
+    ensures counted { OnOk result (All IsWritable (map field_value fields.now)) }
 {
     for field in fields {
         push_field(writer, *field)?;

@@ -1,7 +1,7 @@
 // Scans and rejects as rows.
-ghost use Rattle.std.specs.Prelude.{◌≡◌, ◌∷◌, [], map, OnOk};
+ghost use Rattle.std.specs.Prelude.{◌≡◌, ◌∷◌, [], map, All, OnOk};
 ghost use Rattle.value_types.specs.ValueText.{truth_text};
-ghost use Rattle.db_records.specs.Record.{record_bytes};
+ghost use Rattle.db_records.specs.Record.{IsWritable, record_bytes};
 ghost use Rattle.db_writer.specs.Rejects.{newline_bytes, reject_row, reject_rows, scan_row, scan_rows};
 ghost use Rattle.db_writer.specs.Written.{no_values, with_records};
 
@@ -44,6 +44,7 @@ fn push_scan(
 ) -> Result<(), NoMemory>
     requires none { writer.old.values ≡ no_values }
     ensures ok { OnOk result (writer.new ≡ with_records writer.old (record_bytes (scan_row sniffed.now file_id file.now) ∷ [])) }
+    ensures counted { OnOk result (All IsWritable (scan_row sniffed.now file_id file.now)) }
 {
     push_fields(
         writer,
@@ -66,6 +67,7 @@ fn push_scan(
 fn push_reject(writer: &mut RowWriter, reject: &Reject) -> Result<(), NoMemory>
     requires none { writer.old.values ≡ no_values }
     ensures ok { OnOk result (writer.new ≡ with_records writer.old (record_bytes (reject_row reject.now) ∷ [])) }
+    ensures counted { OnOk result (All IsWritable (reject_row reject.now)) }
 {
     push_fields(
         writer,
@@ -92,6 +94,7 @@ pub(crate) fn push_scans(
 ) -> Result<(), NoMemory>
     requires none { writer.old.values ≡ no_values }
     ensures ok { OnOk result (writer.new ≡ with_records writer.old (map record_bytes (scan_rows sniffed.now 0 files.now))) }
+    ensures counted { OnOk result (All (All IsWritable) (scan_rows sniffed.now 0 files.now)) }
 {
     for index in 0..files.len() {
         push_scan(writer, sniffed, index as u64, files[index].name.as_slice())?;
@@ -103,6 +106,7 @@ pub(crate) fn push_scans(
 fn push_stored(writer: &mut RowWriter, book: &Book) -> Result<(), NoMemory>
     requires none { writer.old.values ≡ no_values }
     ensures ok { OnOk result (writer.new ≡ with_records writer.old (map record_bytes (map reject_row book.now.stored))) }
+    ensures counted { OnOk result (All (All IsWritable) (map reject_row book.now.stored)) }
 {
     for index in 0..book.len() {
         push_reject(writer, book.get(index))?;
@@ -114,6 +118,7 @@ fn push_stored(writer: &mut RowWriter, book: &Book) -> Result<(), NoMemory>
 pub(crate) fn push_rejects(writer: &mut RowWriter, files: &[FileBook]) -> Result<(), NoMemory>
     requires none { writer.old.values ≡ no_values }
     ensures ok { OnOk result (writer.new ≡ with_records writer.old (map record_bytes (reject_rows files.now))) }
+    ensures counted { OnOk result (All (All IsWritable) (reject_rows files.now)) }
 {
     for file in files {
         push_stored(writer, &file.book)?;

@@ -5,6 +5,7 @@ ghost use Rattle.value_types.specs.Spelled.{IsSpelled, IsSpelledCell};
 ghost use Rattle.std.specs.Str.{is_utf8};
 ghost use Rattle.value_types.specs.ValueText.{value_text};
 ghost use Rattle.value_types.specs.Datum.{datum_of};
+ghost use Rattle.db_records.specs.Record.{IsWritable};
 ghost use Rattle.db_writer.specs.Stored.{stored_cell, stored_value, text_or_blob};
 ghost use Rattle.db_writer.specs.Written.{nothing_written, record_of, with_records, with_value};
 
@@ -76,6 +77,7 @@ impl RowWriter {
     /// Appends a number. One of 2^63 and more isn't counted.
     pub(crate) fn push_count(&mut self, count: u64) -> Result<(), NoMemory>
         ensures ok { OnOk result (self.new ≡ with_value self.old (stored.Int (pos count))) }
+        ensures counted { OnOk result (IsWritable (stored.Int (pos count))) }
     {
         match i64::try_from(count) {
             Ok(number) => self.push_integer(number),

@@ -1,5 +1,6 @@
 use Rattle.std.proofs.Common.{◌≡◌, ℕ, List, ◌∙◌, ap, codes, map, subst}
 use Rattle.std.specs.Prelude.{OnOk}
+use Rattle.std.proofs.lemmas.Result.{IfOk-weaker}
 use Rattle.db_records.specs.Record.{record_bytes}
 use Rattle.db_pages.specs.Grown.{Filled, TreeBytes, closed, tree_of, tree_over}
 use Rattle.db_pages.specs.Image.{with_table}
@@ -18,4 +19,5 @@ returns c =
     let tree = ap (λ (f : Filled). tree_over (closed f)) c.into_leaves.ensures ∙ tree-written c.next_place.result c.push_rejects.new.writer records written ∙ ap (λ n. tree_of n records) c.next_place.ensures in record {
       ok = subst (λ (sql : List ℕ). OnOk c.push_leaves.result (new ≡ with_table image (codes "reject_errors") sql (tree_of (next_place 1 image.trees) records))) c.errors_text.ensures
           (subst (λ (t : TreeBytes). OnOk c.push_leaves.result (new ≡ with_table image (codes "reject_errors") c.errors_text.result.now t)) tree c.push_leaves.ensures.ok);
+      counted = IfOk-weaker c.push_leaves.result _ _ (λ _ _. c.in_ok-push_rejects.ensures.counted) c.push_leaves.ensures.ok;
     }

@@ -1,5 +1,6 @@
 use Rattle.std.proofs.Common.{◌≡◌, ℕ, List, ◌∙◌, ap, subst}
 use Rattle.std.specs.Prelude.{IfOk}
+use Rattle.std.proofs.lemmas.Result.{IfOk-weaker}
 use Rattle.db_pages.specs.Image.{Imaged, Tabled}
 use Rattle.db_writer.specs.Database.{database, errors_table, rows_table, scans_table, with_tabled}
 use Rattle.db_writer.proofs.TableTrees.{three-tables}
@@ -16,4 +17,5 @@ returns g c =
     record {
       value = subst (λ (i : List ℕ). IfOk c.finish.result (λ text. text ≡ i)) (three-tables c.tables_follow.ensures rows scans errors c.push_errors_table.new.image all) c.finish.ensures.value;
       few = c.finish.ensures.few;
+      counted = IfOk-weaker c.finish.result _ _ (λ _ _. record { scans = c.in_ok-push_scans_table.ensures.counted; rejects = c.in_ok-push_errors_table.ensures.counted }) c.finish.ensures.few;
     }
