@@ -1,5 +1,5 @@
 -- A file made of its parts.
-use Rattle.std.proofs.Common.{◌≡◌, ℕ, ◌+◌, ◌-◌, ◌*◌, ◌/◌, ◌%◌, ◌^◌, ◌<◌, ◌≤◌, List, ◌++◌, length, ◌∙◌, ap, arith, inl, inr, length-append, nat_lt}
+use Rattle.std.proofs.Common.{◌≡◌, ℕ, ◌+◌, ◌-◌, ◌%◌, ◌^◌, ◌<◌, List, ◌++◌, length, ◌∙◌, ap, arith, inl, inr, length-append, nat_lt}
 use Rattle.std.proofs.lemmas.Bool.{cases_lt, cond-false, le-ltb}
 use Rattle.db_pages.specs.Numbers.{number_of}
 use Rattle.db_pages.specs.Laid.{next_place}
