@@ -1,30 +1,25 @@
 -- A row whose fields are found one behind another.
-use Rattle.std.proofs.Common.{◌≡◌, ℕ, ◌+◌, ◌-◌, ◌<◌, ◌≤◌, Bool, true, false, ◌&&◌, ◌||◌, cond, List, [], ◌∷◌, ◌++◌, map, take, drop, length, get_or, refl, sym, ◌∙◌, ap, subst, inl, inr, ◌⊎◌, arith, length-append, append-nil}
-use Rattle.std.specs.Prelude.{◌==◌, ◌≢◌, Some, None, option_map, slice_get, slice_range}
-use Rattle.std.proofs.lemmas.Bool.{ne_eqb}
+use Rattle.std.proofs.Common.{◌≡◌, ℕ, ◌+◌, ◌-◌, ◌<◌, ◌≤◌, true, false, List, [], ◌∷◌, ◌++◌, map, take, drop, length, get_or, refl, sym, ◌∙◌, ap, subst, inl, inr, ◌⊎◌, arith, length-append, append-nil}
+use Rattle.std.specs.Prelude.{◌≢◌, Some, None, option_map, slice_get, slice_range}
 use Rattle.std.proofs.lemmas.List.{drop_more, map_push, length-map, take_at, append_assoc}
 use Rattle.std.proofs.lemmas.List.Folds.{drop_split}
 use Rattle.std.proofs.lemmas.Option.{get_or_from_slice_get, none-some, same_Some, slice_get_within}
-use Rattle.byte_classes.specs.declared.class.Class.TheVariants as class
-use Rattle.byte_classes.specs.Dialect.{IsDialect, Marks, is_byte}
-use Rattle.byte_classes.specs.Class.{class_of, same_class}
+use Rattle.byte_classes.specs.Dialect.{IsDialect, Marks}
 use Rattle.byte_classes.specs.Fault.{is_line_end_byte}
-use Rattle.byte_classes.specs.Special.{is_special}
-use Rattle.byte_classes.proofs.ClassLaws.{class_of-delim}
 use Rattle.quote_automaton.specs.declared.state.State.TheVariants.{RowStart, FieldStart}
-use Rattle.quote_automaton.specs.Automaton.{state_after, is_inside_quotes}
+use Rattle.quote_automaton.specs.Automaton.{state_after}
 use Rattle.quote_automaton.specs.Rows.{begins_comment, row_at, row_end}
 use Rattle.row_fields.specs.declared.field.Ending.{Ending}
 use Rattle.row_fields.specs.declared.field.Ending.TheVariants as ending
 use Rattle.row_fields.specs.declared.field.FieldEnd.{FieldEnd}
 use Rattle.row_fields.specs.declared.span.Span.{Span}
 use Rattle.row_fields.specs.declared.span.Store.TheVariants.{Row}
-use Rattle.row_fields.specs.Fields.{Field, is_quoted, is_sound_end, unescaped, inner, raw_fields, fields_from, fields, flaw}
-use Rattle.row_fields.specs.Reading.{ends_field, ReadsField, PlacesField, HasRead, field_of, flaw_place, rest_at}
+use Rattle.row_fields.specs.Fields.{Field, unescaped, raw_fields, fields_from, fields, flaw}
+use Rattle.row_fields.specs.Reading.{ReadsField, PlacesField, HasRead, field_of, flaw_place, rest_at}
 use Rattle.row_fields.specs.Split.{field_in, row_from}
-use Rattle.row_fields.proofs.Leading.{AllOrdinary, LeadsBare, leads_bare, line_end_class}
 use Rattle.row_fields.proofs.Places.{places_plain, places_unescaped}
 use Rattle.row_fields.proofs.FrontReading.{IsLast, has_read_more, has_read_none, is_row_len, is_split}
+use Rattle.row_fields.proofs.PlainReading.{bare_field_of, line_end_is_no_delim, no_delim_class}
 use Rattle.row_fields.proofs.RowSteps.{row_at-start, begins-row_at, raw_fields-start, row_at-ended, raw_fields-last, other_ends_row}
 use Rattle.value_types.specs.declared.types.ColumnType.{ColumnType}
 use Rattle.value_types.specs.declared.types.ColumnType.TheVariants.{Varchar}
@@ -34,68 +29,6 @@ use Rattle.reject_book.specs.declared.reject.Schema.{Schema}
 use Rattle.reject_book.specs.Casting.{cell_at}
 use Rattle.range_scan.specs.declared.context.Context.{Context}
 use Rattle.range_scan.specs.FastRows.{cells_in, IsFastRow, IsField}
-
--- ---- a field without quotes
-
-no_quote_class : (d : Marks) (b : ℕ) → is_byte d.quote b ≡ false → same_class (class_of d b) class.Quote ≡ false
-no_quote_class d b h =
-    ap (λ t. same_class (cond (b == 10) class.Lf (cond (b == 13) class.Cr (cond (b == d.delim) class.Delim (cond t class.Quote (cond (is_byte d.escape b) class.Escape (cond (is_byte d.comment b) class.Comment class.Other)))))) class.Quote) h
-    ∙ by_tests (b == 10) (b == 13) (b == d.delim) (is_byte d.escape b) (is_byte d.comment b) where
-      by_tests : (lf cr delim escape comment : Bool) →
-          same_class (cond lf class.Lf (cond cr class.Cr (cond delim class.Delim (cond escape class.Escape (cond comment class.Comment class.Other))))) class.Quote ≡ false
-      by_tests true cr delim escape comment = refl
-      by_tests false true delim escape comment = refl
-      by_tests false false true escape comment = refl
-      by_tests false false false true comment = refl
-      by_tests false false false false true = refl
-      by_tests false false false false false = refl
-
-no_delim_class : (d : Marks) (b : ℕ) → (b == d.delim) ≡ false → same_class (class_of d b) class.Delim ≡ false
-no_delim_class d b h =
-    ap (λ t. same_class (cond (b == 10) class.Lf (cond (b == 13) class.Cr (cond t class.Delim (cond (is_byte d.quote b) class.Quote (cond (is_byte d.escape b) class.Escape (cond (is_byte d.comment b) class.Comment class.Other)))))) class.Delim) h
-    ∙ by_tests (b == 10) (b == 13) (is_byte d.quote b) (is_byte d.escape b) (is_byte d.comment b) where
-      by_tests : (lf cr quote escape comment : Bool) →
-          same_class (cond lf class.Lf (cond cr class.Cr (cond quote class.Quote (cond escape class.Escape (cond comment class.Comment class.Other))))) class.Delim ≡ false
-      by_tests true cr quote escape comment = refl
-      by_tests false true quote escape comment = refl
-      by_tests false false true escape comment = refl
-      by_tests false false false true comment = refl
-      by_tests false false false false true = refl
-      by_tests false false false false false = refl
-
--- ordinary bytes up to one that ends a field
-pub reads_ordinary : (d : Marks) (bytes : List ℕ) (from end : ℕ) → from ≤ end → end < length bytes → is_quoted d (slice_range bytes from end) ≡ false → AllOrdinary d false (slice_range bytes from end) →
-    is_special false (class_of d (get_or bytes end 0)) ≡ true → ReadsField d bytes from (record { at = end; ending = ending.Bare })
-reads_ordinary d bytes from end low high bare each stops =
-    let raw : List ℕ = slice_range bytes from end in
-    let leads : LeadsBare d raw = leads_bare d raw each (first raw bare) in
-    record {
-      low = low;
-      high = omega (arith, high);
-      inside = leads.leads.inside;
-      stops = λ more. ap (λ s. ends_field d s (get_or bytes end 0)) leads.leads.to ∙ leads.stops (class_of d (get_or bytes end 0)) stops;
-      ends = (bare, leads.leads.unbroken, ap is_inside_quotes leads.leads.to ∙ leads.outside);
-    } where
-      first : (xs : List ℕ) → is_quoted d xs ≡ false → 0 < length xs → same_class (class_of d (get_or xs 0 0)) class.Quote ≡ false
-      first [] bare some = absurd (let n : ⊥ = omega (arith, some) in n)
-      first (x ∷ xs) bare some = no_quote_class d x bare
-
-pub bare_field_of : (d : Marks) (from : ℕ) (raw : List ℕ) → is_quoted d raw ≡ false → field_of d from raw ≡ record { at = from; quoted = false; value = raw }
-bare_field_of d from raw bare = λ i. record { at = from; quoted = bare i; value = cond (bare i && is_sound_end (state_after d FieldStart raw)) (unescaped d (inner raw)) raw }
-
--- ---- what may follow a field
-
-pub delim_stops : (d : Marks) (b : ℕ) → IsDialect d → b ≡ d.delim → is_special false (class_of d b) ≡ true
-delim_stops d b sound is = ap (is_special false) (ap (class_of d) is ∙ class_of-delim d sound)
-
-pub line_end_stops : (d : Marks) (b : ℕ) → is_line_end_byte b ≡ true → is_special false (class_of d b) ≡ true
-line_end_stops d b is = λ i. (line_end_class d b ∙ is) i || same_class (class_of d b) class.Delim
-
-line_end_is_no_delim : (d : Marks) (b : ℕ) → IsDialect d → is_line_end_byte b ≡ true → (b == d.delim) ≡ false
-line_end_is_no_delim d b sound is = ne_eqb b d.delim (λ e.
-    let delim : is_line_end_byte d.delim ≡ false = λ i. ne_eqb d.delim 10 sound.delim.1 i || ne_eqb d.delim 13 sound.delim.2 i in
-    let wrong : true ≡ false = sym is ∙ ap is_line_end_byte e ∙ delim in
-    let n : ⊥ = cc in n)
 
 -- ---- the cells of fields
 

@@ -10,7 +10,8 @@ use Rattle.column_store.specs.ChunkView.{ChunkView}
 use Rattle.range_scan.specs.declared.context.Context.{Context}
 use Rattle.range_scan.specs.FastRows.{IsUnder}
 use Rattle.range_scan.specs.FastRows.{IsFastRow, IsFieldPushed}
-use Rattle.range_scan.proofs.FastFields.{delim_stops, last_one, line_end_stops, one_more, HasFields}
+use Rattle.row_fields.proofs.PlainReading.{delim_stops, line_end_stops}
+use Rattle.range_scan.proofs.FastFields.{last_one, one_more, HasFields}
 
 pub on_some : {P Q : ℕ → Type 0} (o : Option ℕ) → ((n : ℕ) → P n → Q n) → IfSome o P → IfSome o Q
 on_some None weaker p = p

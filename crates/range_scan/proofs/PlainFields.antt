@@ -1,20 +1,17 @@
 -- The field of a plain value, and an empty one.
 use Rattle.std.proofs.Common.{◌≡◌, ℕ, zero, suc, take, drop, ◌+◌, ◌-◌, ◌<◌, ◌≤◌, Bool, true, false, ◌&&◌, cond, List, [], ◌∷◌, length, get_or, refl, sym, ◌∙◌, ap, subst, arith}
-use Rattle.std.specs.Prelude.{◌==◌, Option, Some, None, IfSome, slice_get, slice_range}
+use Rattle.std.specs.Prelude.{Option, Some, None, slice_get, slice_range}
 use Rattle.std.specs.List.{list_all}
 use Rattle.std.specs.Option.{is_some}
 use Rattle.std.specs.Str.{bytes_eq}
-use Rattle.std.proofs.lemmas.Bool.{and_parts, and_from, ne_eqb, or_left, or_right, true≢false}
+use Rattle.std.proofs.lemmas.Bool.{and_parts, and_from, or_left, or_right, true≢false}
 use Rattle.std.proofs.lemmas.List.Edits.{get_or-between, length-between}
-use Rattle.std.proofs.lemmas.List.Folds.{list_all_at}
 use Rattle.std.proofs.lemmas.Option.{none-some, same_Some}
-use Rattle.byte_classes.specs.declared.class.Class.TheVariants as class
-use Rattle.byte_classes.specs.Dialect.{Marks, is_byte}
-use Rattle.byte_classes.specs.Class.{class_of, same_class}
+use Rattle.byte_classes.specs.Class.{class_of}
 use Rattle.byte_classes.specs.Special.{is_special}
 use Rattle.row_fields.specs.declared.field.Ending.TheVariants as ending
 use Rattle.row_fields.specs.Fields.{is_quoted}
-use Rattle.row_fields.specs.Reading.{ReadsField}
+use Rattle.row_fields.proofs.PlainReading.{all_at, bare_field_of, differs, reads_ordinary, reads_plain}
 use Rattle.value_types.specs.declared.types.ColumnType.{ColumnType}
 use Rattle.value_types.specs.declared.types.ColumnType.TheVariants as types
 use Rattle.value_types.specs.Datum.{Datum, null}
@@ -23,62 +20,7 @@ use Rattle.value_types.specs.Plain.{is_plain, IsPlainAt}
 use Rattle.reject_book.specs.declared.reject.Schema.{Schema}
 use Rattle.reject_book.specs.Casting.{cell_at}
 use Rattle.range_scan.specs.declared.context.Context.{Context}
-use Rattle.range_scan.specs.FastRows.{begins_plain, is_plain_in, HoldsPlain, IsField, LeavesPlain}
-use Rattle.range_scan.proofs.FastFields.{bare_field_of, reads_ordinary}
-
--- ---- a plain byte
-
-module _ (p : ℕ → Bool) where
-  -- two bytes differ of which one alone may stand in a plain value
-  pub differs : (b m : ℕ) → p b ≡ true → p m ≡ false → (b == m) ≡ false
-  differs b m num other = ne_eqb b m (λ e. let wrong : true ≡ false = sym num ∙ ap p e ∙ other in let n : ⊥ = cc in n)
-
-  no_mark : (o : Option ℕ) (b : ℕ) → p b ≡ true → IfSome o (λ m. p m ≡ false) → is_byte o b ≡ false
-  no_mark None b num other = refl
-  no_mark (Some m) b num other = ne_eqb m b (λ e. let wrong : true ≡ false = sym num ∙ ap p (sym e) ∙ other in let n : ⊥ = cc in n)
-
-  -- each byte of a plain value
-  pub all_at : (xs : List ℕ) → list_all p xs ≡ true → (k : ℕ) → k < length xs → p (get_or xs k 0) ≡ true
-  all_at xs all k lt = by_test (p (get_or xs k 0)) refl where
-    by_test : (t : Bool) → p (get_or xs k 0) ≡ t → p (get_or xs k 0) ≡ true
-    by_test true is = is
-    by_test false is = absurd (let wrong : true ≡ false = sym all ∙ list_all_at p xs k 0 lt is in let n : ⊥ = cc in n)
-
-  module _ (d : Marks) (holds : LeavesPlain p d) where
-    -- it has no class but that of an escape
-    module _ (b : ℕ) (num : p b ≡ true) where
-      plain_class : class_of d b ≡ cond (is_byte d.escape b) class.Escape class.Other
-      plain_class = λ i. cond (differs b 10 num holds.lf i) class.Lf (cond (differs b 13 num holds.cr i) class.Cr (cond (differs b d.delim num holds.delim i) class.Delim
-          (cond (no_mark d.quote b num holds.quote i) class.Quote (cond (is_byte d.escape b) class.Escape (cond (no_mark d.comment b num holds.comment i) class.Comment class.Other)))))
-
-      plain_is_ordinary : is_special false (class_of d b) ≡ false
-      plain_is_ordinary = ap (is_special false) plain_class ∙ by_test (is_byte d.escape b) where
-        by_test : (t : Bool) → is_special false (cond t class.Escape class.Other) ≡ false
-        by_test true = refl
-        by_test false = refl
-
-      plain_is_no_quote : same_class (class_of d b) class.Quote ≡ false
-      plain_is_no_quote = ap (λ c. same_class c class.Quote) plain_class ∙ by_test (is_byte d.escape b) where
-        by_test : (t : Bool) → same_class (cond t class.Escape class.Other) class.Quote ≡ false
-        by_test true = refl
-        by_test false = refl
-
-      plain_is_no_comment : same_class (class_of d b) class.Comment ≡ false
-      plain_is_no_comment = ap (λ c. same_class c class.Comment) plain_class ∙ by_test (is_byte d.escape b) where
-        by_test : (t : Bool) → same_class (cond t class.Escape class.Other) class.Comment ≡ false
-        by_test true = refl
-        by_test false = refl
-
-    bare_front : (xs : List ℕ) → list_all p xs ≡ true → is_quoted d xs ≡ false
-    bare_front [] all = refl
-    bare_front (x ∷ xs) all = no_mark d.quote x (all_at (x ∷ xs) all 0 (omega arith)) holds.quote
-
-    pub reads_plain : (bytes : List ℕ) (from end : ℕ) → from ≤ end → end < length bytes → list_all p (slice_range bytes from end) ≡ true → is_special false (class_of d (get_or bytes end 0)) ≡ true →
-        (is_quoted d (slice_range bytes from end) ≡ false) × ReadsField d bytes from (record { at = end; ending = ending.Bare })
-    reads_plain bytes from end low high all stops =
-        let raw : List ℕ = slice_range bytes from end in
-        let bare : is_quoted d raw ≡ false = bare_front raw all in
-        (bare, reads_ordinary d bytes from end low high bare (λ k lt. plain_is_ordinary (get_or raw k 0) (all_at raw all k lt)) stops)
+use Rattle.range_scan.specs.FastRows.{begins_plain, is_plain_in, HoldsPlain, IsField}
 
 -- ---- its cell
 

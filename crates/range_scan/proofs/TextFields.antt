@@ -29,7 +29,7 @@ use Rattle.reject_book.specs.declared.reject.Schema.{Schema}
 use Rattle.reject_book.specs.Casting.{cell_at, cell_of}
 use Rattle.range_scan.specs.declared.context.Context.{Context}
 use Rattle.range_scan.specs.FastRows.{HoldsFields, IsField, text_cell}
-use Rattle.range_scan.proofs.FastFields.{bare_field_of}
+use Rattle.row_fields.proofs.PlainReading.{bare_field_of}
 
 text_casts : (schema : Schema) (quoted : Bool) (value : List ℕ) → cell_of schema Varchar quoted value ≡ Some (text_cell schema quoted value)
 text_casts schema quoted value = by_test (is_null schema.nullstr schema.allow_quoted_nulls quoted value) where

@@ -2,11 +2,11 @@
 use Rattle.std.specs.Prelude.{◌≡◌, ◌≢◌, ◌<◌, ◌≤◌, ℕ, Bool, true, false, List, [], ◌∷◌, ◌++◌, length, map, All, IfSome, Some, None, Option, slice_index, slice_range, if◌then◌else◌, ◌==◌, ⊤}
 use Rattle.std.specs.List.{list_any}
 use Rattle.byte_classes.specs.Class.{class_of}
-use Rattle.byte_classes.specs.Dialect.{IsDialect, Marks}
 use Rattle.byte_classes.specs.Special.{is_special}
 use Rattle.quote_automaton.specs.RowEnd.{row_len}
 use Rattle.row_fields.specs.declared.field.Ending.{Ending}
 use Rattle.row_fields.specs.Fields.{Field, fields, flaw}
+use Rattle.row_fields.specs.Plain.{LeavesPlain}
 use Rattle.row_fields.specs.Reading.{ReadsField, field_of, flaw_place}
 use Rattle.row_fields.specs.Split.{row_from}
 use Rattle.value_types.specs.declared.types.ColumnType.{ColumnType}
@@ -28,15 +28,6 @@ use Rattle.range_scan.specs.declared.fast_rows.kinds.FastRows.TheVariants.{Never
 -- a byte of a plain value of one of the types
 abbrev pub is_plain_in : List ColumnType → ℕ → Bool
 is_plain_in types b = list_any (λ ty. is_plain ty b) types
-
--- no such byte ends a line, and to none the dialect gives a meaning
-pub record LeavesPlain (p : ℕ → Bool) (d : Marks) : Type 0 where
-  pub sound : IsDialect d
-  pub lf : p 10 ≡ false
-  pub cr : p 13 ≡ false
-  pub delim : p d.delim ≡ false
-  pub quote : IfSome d.quote (λ q. p q ≡ false)
-  pub comment : IfSome d.comment (λ k. p k ≡ false)
 
 -- whether a text begins with such a byte
 abbrev pub begins_plain : (ℕ → Bool) → List ℕ → Bool
