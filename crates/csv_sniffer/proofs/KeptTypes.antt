@@ -49,6 +49,14 @@ by_date stamp false of law = refl
 pub date_decides : (stamp : Bool) (text : List ℕ) → is_of_type text types.Date ≡ (keeps_type true text types.Date && keeps_type stamp text types.Timestamp)
 date_decides stamp text = by_date stamp (is_of_type text types.Date) (is_of_type text types.Timestamp) (date_is_stamp text)
 
+-- so a text that spells a date leaves both as they are
+pub keeps_by_date : (possible : PossibleTypes) (text : List ℕ) → possible.some_value ≡ true → possible.boolean ≡ false → possible.bigint ≡ false → possible.date ≡ true → possible.time ≡ false →
+    is_of_type text types.Date ≡ true → keeps possible text ≡ true
+keeps_by_date possible text some no_truth no_number day no_time is =
+    (λ i. some i && keeps_type (no_truth i) text types.Boolean && keeps_type (no_number i) text types.Bigint && keeps_type (no_time i) text types.Time
+    && (keeps_type (day i) text types.Date && keeps_type possible.timestamp text types.Timestamp))
+    ∙ sym (date_decides possible.timestamp text) ∙ is
+
 -- ---- types that stay
 
 stays : (possible of : Bool) → (not possible || of) ≡ true → possible ≡ (possible && of)

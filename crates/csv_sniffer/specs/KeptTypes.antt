@@ -5,6 +5,7 @@ use Rattle.std.specs.List.{list_all}
 use Rattle.value_types.specs.declared.types.ColumnType.{ColumnType}
 use Rattle.value_types.specs.declared.types.ColumnType.TheVariants as types
 use Rattle.value_types.specs.OfType.{is_of_type}
+use Rattle.value_types.specs.Plain.{is_plain}
 use Rattle.csv_sniffer.specs.declared.possible_types.PossibleTypes.{PossibleTypes}
 
 -- whether a type stays as possible as it was with one value more
@@ -32,3 +33,7 @@ abbrev pub keeps_number : PossibleTypes → List ℕ → Bool
 keeps_number possible text =
     possible.some_value && possible.bigint && not (possible.boolean || possible.date || possible.time || possible.timestamp)
     && is_plain_number text
+
+-- whether a byte may stand in a plain value of a type
+abbrev pub is_value_byte : ℕ → Bool
+is_value_byte b = is_plain types.Timestamp b || is_plain types.Boolean b

@@ -1,0 +1,17 @@
+use Rattle.std.proofs.Common.{◌≡◌, ◌<◌, ◌≤◌, ℕ, length, get_or}
+use Rattle.row_fields.specs.Fields.{fields}
+use Rattle.row_fields.specs.Split.{row_from}
+use Rattle.row_fields.proofs.FirstFields.{HasRest}
+use Rattle.load_options.specs.declared.options.Options.{Options}
+use Rattle.csv_sniffer.specs.declared.possible_types.PossibleTypes.{PossibleTypes}
+use Rattle.csv_sniffer.specs.PossibleTypes.{column_value, narrowed_by}
+use Rattle.csv_sniffer.proofs.kept_rows.keeps_types.Given as goal
+
+-- the columns so far are kept, and the rest of the row begins here
+abbrev pub invariant-loop-column : goal.invariant-loop-column
+invariant-loop-column l = record {
+  within : l.from ≤ length l.sample;
+  rest : HasRest l.dialect l.sample (fields l.dialect (row_from l.dialect l.sample l.start)) l.column l.from;
+  kept : (o : Options) (k : ℕ) (other : PossibleTypes) → k < l.column →
+      get_or l.possible k other ≡ narrowed_by (column_value o (fields l.dialect (row_from l.dialect l.sample l.start)) k) (get_or l.possible k other);
+}
