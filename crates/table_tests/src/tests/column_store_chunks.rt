@@ -2,8 +2,8 @@
 ghost use Rattle.std.specs.Prelude.{◌≡◌, ◌∷◌, [], length, IfOk};
 ghost use Rattle.value_types.specs.declared.types.ColumnType.TheVariants.{Bigint};
 
-use super::value_types_cells::is_value;
 use super::column_taps_extents::table_of;
+use super::value_types_cells::is_value;
 use column_store::Table;
 use csv_source::NoMemory;
 use std::alloc::Global;

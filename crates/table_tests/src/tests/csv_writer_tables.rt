@@ -4,8 +4,8 @@ ghost use Rattle.value_types.specs.declared.types.ColumnType.TheVariants as colu
 ghost use Rattle.value_types.specs.OfType.{fit_all};
 ghost use Rattle.value_types.specs.Spelled.{IsSpelledCell};
 
-use super::text_pieces_pieces::is_text;
 use super::tables::{number, push, two_types};
+use super::text_pieces_pieces::is_text;
 use column_store::Table;
 use csv_source::NoMemory;
 use csv_writer::{write_rows, write_table};

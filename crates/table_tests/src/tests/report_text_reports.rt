@@ -5,8 +5,8 @@ ghost use Rattle.value_types.specs.OfType.{fit_all};
 ghost use Rattle.value_types.specs.Spelled.{IsSpelledCell};
 ghost use Rattle.report_text.specs.Printable.{IsPrintable, IsPrintableLoad};
 
-use super::text_pieces_pieces::is_text;
 use super::tables::{number, push, two_types};
+use super::text_pieces_pieces::is_text;
 use byte_classes::Dialect;
 use column_store::Table;
 use csv_sniffer::{Newline, Sniffed};
