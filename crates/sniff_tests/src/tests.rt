@@ -1,4 +1,5 @@
 mod csv_sniffer_inputs;
+mod csv_sniffer_places;
 mod csv_sniffer_rows;
 mod dialect_rank_candidates;
 mod load_options_commands;

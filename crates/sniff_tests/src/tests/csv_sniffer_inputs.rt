@@ -1,9 +1,6 @@
-//! What is found in inputs, and where their data begin.
+//! What is found in inputs.
 use super::words::options_of;
-use csv_sniffer::{
-    Newline, SAMPLE_LIMIT, Sniffed, place_under, sample_of, sample_start, sniff, sniff_input,
-    start_under,
-};
+use csv_sniffer::{Newline, SAMPLE_LIMIT, Sniffed, sample_start, sniff};
 use std::alloc::Global;
 use std::process::Abort;
 use std::test::Fail;
@@ -240,27 +237,5 @@ fn bytes_decide_header_and_escape(rt: HostRuntime) -> Result<(), Fail> {
         ),
         (b',', Some(b'"'), Some(b'\\'))
     );
-    Ok(())
-}
-
-/// Behind a byte order mark, a line that is skipped, and the header, in the input and in another one.
-#[test]
-fn data_begin_behind_the_header(rt: HostRuntime) -> Result<(), Fail> {
-    let options = options_of(rt.alloc(), "load f.csv skip=1")?;
-    let input = b"x\na,b\n1,2\n";
-    let finding = sniff_input(rt.alloc(), &options, input)?;
-    assert_eq!(rt; finding.data_start, 6);
-    let other = "\u{FEFF}y\nccc,d\n3,4\n".as_bytes();
-    let start = place_under(rt.alloc(), &options, &finding.sniffed, other)?;
-    assert_eq!(rt; start, 11);
-    let behind = start_under(
-        rt.alloc(),
-        &options,
-        &finding.sniffed,
-        b"ccc,d\n3,4\n",
-        true,
-    )?;
-    assert_eq!(rt; behind, 6);
-    assert_eq!(rt; sample_of(other), other);
     Ok(())
 }
