@@ -63,8 +63,8 @@ fn stored_in(store: bool, batch: &Batch) -> Result<u64, NoMemory>
     Ok(count)
 }
 
-/// How many rejects came.
-pub(crate) fn all_in(batch: &Batch) -> Result<u64, NoMemory>
+/// How many rejects came. What can't be counted counts as want of memory.
+pub fn all_in(batch: &Batch) -> Result<u64, NoMemory>
     ensures { IfOk result (λ count. count ≡ all_in batch.now.files) }
 {
     let mut count = 0;

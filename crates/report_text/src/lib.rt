@@ -21,6 +21,7 @@ mod table;
 mod text;
 mod workers;
 
+pub use batch::all_in;
 pub use made::make_text;
 pub use outcome::{Loaded, Mismatch, Outcome, Stats};
 pub use text::render;
