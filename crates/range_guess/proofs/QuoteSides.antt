@@ -43,7 +43,7 @@ other_is class.Other h = refl
 -- the quote is its own escape
 pub doubling_mark : (o p : Option ℕ) → is_same_byte o p ≡ true → (q : ℕ) × (o ≡ Some q) × (p ≡ Some q)
 doubling_mark None p h = absurd (let no : ⊥ = cc in no)
-pub doubling_mark (Some a) None h = absurd (let no : ⊥ = cc in no)
+doubling_mark (Some a) None h = absurd (let no : ⊥ = cc in no)
 doubling_mark (Some a) (Some b) h = (a, refl, ap Some (eqb-true b a h))
 
 escape_by_tests : (lf cr delim quote comment : Bool) →
