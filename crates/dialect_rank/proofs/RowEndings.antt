@@ -153,3 +153,4 @@ pub lone_cr : (b c : ℕ) → c == 10 ≡ false → (b == 13 && (c == 10)) ≡ f
 lone_cr b c h = grind (arith, nat_tests)
 
 pub pair : (b c : ℕ) → b == 13 ≡ true → c == 10 ≡ true → (b == 13 && (c == 10)) ≡ true
+pair b c h k = λ i. h i && (k i)
