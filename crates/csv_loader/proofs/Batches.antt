@@ -1,11 +1,13 @@
 -- Several files with one more.
-use Rattle.std.proofs.Common.{◌≡◌, ℕ, suc, ◌+◌, ◌||◌, Bool, true, false, cond, List, [], ◌∷◌, ◌++◌, map, length, None, Some, refl, sym, ap, ◌∙◌, arith, append-nil}
+use Rattle.std.proofs.Common.{◌≡◌, ℕ, suc, ◌+◌, ◌||◌, Bool, true, false, cond, List, [], ◌∷◌, ◌++◌, map, length, None, Some, refl, sym, ap, ◌∙◌, arith, append-nil, subst}
 use Rattle.std.specs.Prelude.{flat_map, slice_get, sum, All}
 use Rattle.std.proofs.lemmas.List.{map-append}
 use Rattle.std.proofs.lemmas.List.Concat.{flat_map-append}
-use Rattle.std.proofs.lemmas.List.Elements.{All-nil, All-append}
+use Rattle.std.proofs.lemmas.List.Elements.{All-nil, All-append, All-weaker}
 use Rattle.std.proofs.lemmas.List.Sums.{sum_by-cons, sum_by-append}
 use Rattle.value_types.specs.Datum.{Datum}
+use Rattle.value_types.specs.OfType.{fit_all}
+use Rattle.value_types.specs.Spelled.{IsSpelledCell}
 use Rattle.load_options.specs.declared.options.Options.{Options}
 use Rattle.csv_sniffer.specs.declared.found.Sniffed.{Sniffed}
 use Rattle.reject_book.specs.declared.reject.Reject.{Reject}
@@ -13,12 +15,12 @@ use Rattle.reject_book.specs.Kept.{book_of}
 use Rattle.reject_book.specs.Verdict.{Verdict}
 use Rattle.file_list.specs.BatchView.{BatchView, with_file}
 use Rattle.report_text.specs.declared.outcome.Stats.{Stats}
-use Rattle.csv_loader.specs.declared.batch.BatchLoad.{BatchLoad}
-use Rattle.csv_loader.specs.declared.batch.BatchLoad.TheVariants as batches
-use Rattle.csv_loader.specs.declared.loading.Load.{Load}
-use Rattle.csv_loader.specs.declared.loading.Load.TheVariants as loads
-use Rattle.csv_loader.specs.Batch.{readings_from, books_of, batch_of, batch_error, both_stats, file_stats, batch_stats, IsBatchLoad, CanJoin, no_files, with_load}
-use Rattle.csv_loader.specs.Loading.{IsLoad}
+use Rattle.csv_loader.specs.declared.batch.Load.{Load}
+use Rattle.csv_loader.specs.declared.batch.Load.TheVariants as loads
+use Rattle.csv_loader.specs.declared.loading.FileLoad.{FileLoad}
+use Rattle.csv_loader.specs.declared.loading.FileLoad.TheVariants as file_loads
+use Rattle.csv_loader.specs.Batch.{readings_from, books_of, batch_of, batch_error, both_stats, file_stats, batch_stats, load_of, unless_error, CanJoin, HasFiles, IsPrintableFiles, no_files, with_load}
+use Rattle.csv_loader.specs.Loading.{IsFileLoad}
 use Rattle.csv_loader.specs.Reading.{file_reading, table_rows, faults, keep_of, ending_error}
 use Rattle.csv_loader.proofs.Printing.{IsRowOf, file_prints}
 
@@ -71,7 +73,13 @@ no_error false = refl
 
 -- ---- one more file
 
-pub none_loaded : (o : Options) (s : Sniffed) → IsBatchLoad o s [] [] (no_files s.types)
+-- all of the files so far, or the first error where it ends the load
+abbrev pub IsSoFarLoad : Options → Sniffed → List (List ℕ) → List (List ℕ) → Load → Type 0
+IsSoFarLoad o s names inputs (loads.Whole batch stats) =
+    (batch_error o s inputs ≡ None) × (batch ≡ batch_of o s names inputs) × (stats ≡ batch_stats o s inputs)
+IsSoFarLoad o s names inputs (loads.FirstError reject) = batch_error o s inputs ≡ Some reject
+
+pub none_loaded : (o : Options) (s : Sniffed) → IsSoFarLoad o s [] [] (no_files s.types)
 none_loaded o s = (no_error (o.ignore_errors || o.store_rejects), refl, refl)
 
 module _ (o : Options) (s : Sniffed) (names inputs : List (List ℕ)) (name input : List ℕ) where
@@ -108,24 +116,53 @@ module _ (o : Options) (s : Sniffed) (names inputs : List (List ℕ)) (name inpu
   stats-more : batch_stats o s (inputs ++ input ∷ []) ≡ both_stats (batch_stats o s inputs) (file_stats o s input)
   stats-more = λ i. record { ranges = sums (λ x. x.ranges) i; rescans = sums (λ x. x.rescans) i; scanned = sums (λ x. x.scanned) i }
 
-  pub one_more : (load : BatchLoad) (file : Load) → length names ≡ length inputs → IsBatchLoad o s names inputs load → IsLoad o s (length inputs) input file →
-      IsBatchLoad o s (names ++ name ∷ []) (inputs ++ input ∷ []) (with_load load name file)
-  one_more (batches.FirstError reject) file same is read = error-more ∙ error_stays on (flat_map faults before) (faults vs) reject is
-  one_more (batches.Whole batch stats) (loads.FirstError reject) same is read = error-more ∙ error_later on (flat_map faults before) (faults vs) is.0 ∙ read
-  one_more (batches.Whole batch stats) (loads.Whole loaded) same is read = (
+  pub one_more : (load : Load) (file : FileLoad) → length names ≡ length inputs → IsSoFarLoad o s names inputs load → IsFileLoad o s (length inputs) input file →
+      IsSoFarLoad o s (names ++ name ∷ []) (inputs ++ input ∷ []) (with_load load name file)
+  one_more (loads.FirstError reject) file same is read = error-more ∙ error_stays on (flat_map faults before) (faults vs) reject is
+  one_more (loads.Whole batch stats) (file_loads.FirstError reject) same is read = error-more ∙ error_later on (flat_map faults before) (faults vs) is.0 ∙ read
+  one_more (loads.Whole batch stats) (file_loads.Whole loaded) same is read = (
     error-more ∙ error_later on (flat_map faults before) (faults vs) is.0 ∙ read.0,
     (λ i. with_file (is.1 i) (read.1.rows i) (record { name = name; book = read.1.book i })) ∙ sym (batch-more same),
     (λ i. both_stats (is.2 i) (read.1.stats i)) ∙ sym stats-more,
   )
 
-  pub can_join : (number : ℕ) (load : BatchLoad) (file : Load) → IsBatchLoad o s names inputs load → IsLoad o s number input file → CanJoin load file
-  can_join number (batches.FirstError reject) file is read = tt
-  can_join number (batches.Whole batch stats) (loads.FirstError reject) is read = tt
-  can_join number (batches.Whole batch stats) (loads.Whole loaded) is read = ap (λ (b : BatchView). b.types) is.1 ∙ sym read.1.types
+  pub can_join : (number : ℕ) (load : Load) (file : FileLoad) → IsSoFarLoad o s names inputs load → IsFileLoad o s number input file → CanJoin load file
+  can_join number (loads.FirstError reject) file is read = tt
+  can_join number (loads.Whole batch stats) (file_loads.FirstError reject) is read = tt
+  can_join number (loads.Whole batch stats) (file_loads.Whole loaded) is read = ap (λ (b : BatchView). b.types) is.1 ∙ sym read.1.types
 
--- ---- the rows of all files can be printed
+-- ---- all of them
 
-pub readings_print : (o : Options) (s : Sniffed) (n : ℕ) (inputs : List (List ℕ)) → All (IsRowOf s.types) (flat_map table_rows (readings_from o s n inputs))
+as_many_books : (o : Options) (names : List (List ℕ)) (readings : List (List (Verdict (List Datum) Reject))) → length names ≡ length readings → length (books_of o names readings) ≡ length names
+as_many_books o [] readings same = refl
+as_many_books o (name ∷ names) [] same = absurd (let wrong : ⊥ = omega (arith, same) in wrong)
+as_many_books o (name ∷ names) (vs ∷ readings) same = let others : length names ≡ length readings = omega (arith, same) in ap suc (as_many_books o names readings others)
+
+module _ (o : Options) (s : Sniffed) (names inputs : List (List ℕ)) where
+  pub is_load_of : (load : Load) → IsSoFarLoad o s names inputs load → load ≡ load_of o s names inputs
+  is_load_of (loads.FirstError reject) is = ap (unless_error (loads.Whole (batch_of o s names inputs) (batch_stats o s inputs))) (sym is)
+  is_load_of (loads.Whole batch stats) is =
+      (λ i. loads.Whole (is.1 i) (is.2 i)) ∙ ap (unless_error (loads.Whole (batch_of o s names inputs) (batch_stats o s inputs))) (sym is.0)
+
+  pub has_files : length names ≡ length inputs → (load : Load) → IsSoFarLoad o s names inputs load → HasFiles (length names) load
+  has_files same (loads.FirstError reject) is = tt
+  has_files same (loads.Whole batch stats) is =
+      ap (λ (b : BatchView). length b.files) is.1 ∙ as_many_books o names (readings_from o s 0 inputs) (same ∙ sym (as_many_readings o s 0 inputs))
+
+-- ---- each answer to them has a text
+
+readings_print : (o : Options) (s : Sniffed) (n : ℕ) (inputs : List (List ℕ)) → All (IsRowOf s.types) (flat_map table_rows (readings_from o s n inputs))
 readings_print o s n [] = All-nil (IsRowOf s.types)
 readings_print o s n (input ∷ inputs) =
     All-append (IsRowOf s.types) (table_rows (file_reading o s n input)) (flat_map table_rows (readings_from o s (n + 1) inputs)) (file_prints o s n input) (readings_print o s (n + 1) inputs)
+
+pub all_print : (o : Options) (s : Sniffed) (names inputs : List (List ℕ)) (load : Load) → length s.names ≡ length s.types → IsSoFarLoad o s names inputs load → IsPrintableFiles s load
+all_print o s names inputs (loads.FirstError reject) same is = same
+all_print o s names inputs (loads.Whole batch stats) same is =
+    let prints : All (IsRowOf s.types) ((batch_of o s names inputs).rows) = readings_print o s 0 inputs in
+    let rows = (batch_of o s names inputs).rows in record {
+      names = same;
+      types = ap (λ (b : BatchView). b.types) is.1;
+      rows = subst (λ (b : BatchView). All (λ cells. fit_all s.types cells ≡ true) b.rows) (sym is.1) (All-weaker (IsRowOf s.types) (λ cells. fit_all s.types cells ≡ true) (λ cells row. row.0) rows prints);
+      values = subst (λ (b : BatchView). All (λ cells. All IsSpelledCell cells) b.rows) (sym is.1) (All-weaker (IsRowOf s.types) (λ cells. All IsSpelledCell cells) (λ cells row. row.1) rows prints);
+    }

@@ -1,31 +1,20 @@
--- The files of a word, as they are read one after another.
-use Rattle.std.proofs.Common.{◌≡◌, ℕ, ◌+◌, ◌<◌, ◌≤◌, true, cond, List, [], ◌∷◌, ◌++◌, map, length, take, drop, Option, None, Some, IfSome, refl, sym, ap, ◌∙◌, subst, arith, append_assoc, append-nil, length-append, length-take}
-use Rattle.std.specs.Prelude.{All, ⊤, unwrap_or}
-use Rattle.std.specs.Bool.{then_some}
+-- Files, as they are read one after another.
+use Rattle.std.proofs.Common.{◌≡◌, ◌⊎◌, inl, inr, ℕ, ◌+◌, ◌<◌, ◌≤◌, cond, List, [], ◌∷◌, ◌++◌, map, length, take, drop, Option, None, Some, IfSome, refl, sym, ap, ◌∙◌, subst, arith, append_assoc, append-nil, length-append, length-take}
+use Rattle.std.specs.Prelude.{⊤}
 use Rattle.std.specs.List.{filter_map}
 use Rattle.std.proofs.lemmas.Bool.{le-ltb, lt-ltb}
 use Rattle.std.proofs.lemmas.List.{length-map, map-append, take_all, drop_all}
-use Rattle.std.proofs.lemmas.List.Elements.{All-weaker}
 use Rattle.csv_source.specs.Files.{file_of, Lacks}
-use Rattle.value_types.specs.OfType.{fit_all}
 use Rattle.load_options.specs.declared.options.Options.{Options}
-use Rattle.load_options.specs.FileNames.{file_names}
 use Rattle.csv_sniffer.specs.declared.found.Sniffed.{Sniffed}
 use Rattle.csv_sniffer.specs.Input.{found}
-use Rattle.range_scan.specs.Scanned.{HasColumns}
-use Rattle.file_list.specs.BatchView.{BatchView}
-use Rattle.value_types.specs.Spelled.{IsSpelledCell}
-use Rattle.report_text.specs.Printable.{IsPrintable}
 use Rattle.report_text.specs.declared.outcome.Outcome.{Outcome}
 use Rattle.report_text.specs.declared.outcome.Outcome.TheVariants as outcomes
-use Rattle.csv_loader.specs.declared.batch.BatchLoad.{BatchLoad}
-use Rattle.csv_loader.specs.declared.batch.BatchLoad.TheVariants as batches
-use Rattle.csv_loader.specs.declared.loading.Load.{Load}
-use Rattle.csv_loader.specs.Batch.{found_in_first, batch_of, batch_error, unless_batch_error, inputs_outcome, batch_refusal, batch_outcome, last_read, IsReadWhole, IsReadOver, IsBatchLoad, CanJoin, no_files, with_load, load_outcome, AreOpened, IsOutcomeOfFiles, LacksOne}
-use Rattle.csv_loader.specs.Loading.{IsInput, IsLoad}
-use Rattle.csv_loader.specs.Reading.{schema_of}
-use Rattle.csv_loader.proofs.Batches.{none_loaded, one_more, can_join, readings_print}
-use Rattle.csv_loader.proofs.Printing.{IsRowOf}
+use Rattle.csv_loader.specs.declared.batch.Load.{Load}
+use Rattle.csv_loader.specs.declared.loading.FileLoad.{FileLoad}
+use Rattle.csv_loader.specs.Batch.{found_in_first, batch_refusal, last_read, load_of, no_files, with_load, AreOpened, AreRead, CanJoin, HasFiles, IsLoadOf, IsOver, IsPrintableFiles, IsReadWhole, IsReadOver, LacksOne}
+use Rattle.csv_loader.specs.Loading.{IsInput, IsFileLoad}
+use Rattle.csv_loader.proofs.Batches.{IsSoFarLoad, none_loaded, one_more, can_join, is_load_of, has_files, all_print}
 
 abbrev pub Told : Type 0
 Told = Option (List (List ℕ × List ℕ))
@@ -52,7 +41,7 @@ abbrev pub IsFoundIn : Options → Sniffed → List (List ℕ) → Type 0
 IsFoundIn o s [] = ⊤
 IsFoundIn o s (input ∷ inputs) = s ≡ found o input
 
-short-more : (limit : ℕ) (inputs : List (List ℕ)) (input : List ℕ) → AreShort limit inputs → length input ≤ limit → AreShort limit (inputs ++ input ∷ [])
+pub short-more : (limit : ℕ) (inputs : List (List ℕ)) (input : List ℕ) → AreShort limit inputs → length input ≤ limit → AreShort limit (inputs ++ input ∷ [])
 short-more limit [] input short one = (one, tt)
 short-more limit (first ∷ inputs) input short one = (short.0, short-more limit inputs input short.1 one)
 
@@ -60,13 +49,13 @@ found-more : (o : Options) (s : Sniffed) (inputs : List (List ℕ)) (input : Lis
 found-more o s [] input is first = first refl
 found-more o s (other ∷ inputs) input is first = is
 
-of-more : (held : Told) (names inputs : List (List ℕ)) (name input : List ℕ) → AreOf held names inputs → AreOf held (name ∷ []) (input ∷ []) → AreOf held (names ++ name ∷ []) (inputs ++ input ∷ [])
+pub of-more : (held : Told) (names inputs : List (List ℕ)) (name input : List ℕ) → AreOf held names inputs → AreOf held (name ∷ []) (input ∷ []) → AreOf held (names ++ name ∷ []) (inputs ++ input ∷ [])
 of-more None names inputs name input is one = tt
 of-more (Some files) names inputs name input is one =
     map-append (file_of files) names (name ∷ []) ∙ (λ i. is i ++ one i) ∙ sym (map-append (λ x. Some x) inputs (input ∷ []))
 
 -- a file that was read whole
-one_read : (limit : ℕ) (held : Told) (name input : List ℕ) (left : Option (List ℕ)) → IsInput limit held name input left → length input ≤ limit → AreOf held (name ∷ []) (input ∷ []) × LeavesNone held left
+pub one_read : (limit : ℕ) (held : Told) (name input : List ℕ) (left : Option (List ℕ)) → IsInput limit held name input left → length input ≤ limit → AreOf held (name ∷ []) (input ∷ []) × LeavesNone held left
 one_read limit None name input left is short = (tt, tt)
 one_read limit (Some files) name input left is short =
     let whole : List ℕ = is.0 in
@@ -76,7 +65,7 @@ one_read limit (Some files) name input left is short =
       is.3 ∙ ap (λ x. Some x) (drop_all (limit + 1) whole fits),
     )
 
--- ---- what some inputs come to
+-- ---- which file decides
 
 all_given : (inputs : List (List ℕ)) → filter_map (λ input. input) (map (λ (input : List ℕ). Some input) inputs) ≡ inputs
 all_given [] = refl
@@ -116,64 +105,50 @@ over_last limit (first ∷ (other ∷ inputs)) input later short over =
 
 -- ---- how far the reading has come
 
-pub record IsSoFar (o : Options) (s : Sniffed) (held : Told) (word : List ℕ) (later : List (List ℕ)) (number : ℕ) (load : BatchLoad) : Type 0 where
+pub record AreSoFar (limit : ℕ) (held : Told) (all later : List (List ℕ)) : Type 0 where
   pub names : List (List ℕ)
   pub inputs : List (List ℕ)
-  pub all : file_names word ≡ names ++ later
+  pub split : all ≡ names ++ later
   pub as_many : length names ≡ length inputs
-  pub numbered : number ≡ length inputs
-  pub found_in : IsFoundIn o s inputs
-  pub short : AreShort o.max_input inputs
+  pub short : AreShort limit inputs
   pub of : AreOf held names inputs
-  pub loads : IsBatchLoad o s names inputs load
 
-pub none_so_far : (o : Options) (s : Sniffed) (held : Told) (word : List ℕ) (later : List (List ℕ)) → file_names word ≡ later → IsSoFar o s held word later 0 (no_files s.types)
-none_so_far o s None word later is = record { names = []; inputs = []; all = is; as_many = refl; numbered = refl; found_in = tt; short = tt; of = tt; loads = none_loaded o s }
-none_so_far o s (Some files) word later is = record { names = []; inputs = []; all = is; as_many = refl; numbered = refl; found_in = tt; short = tt; of = refl; loads = none_loaded o s }
+pub of_none : (held : Told) → AreOf held [] []
+of_none None = tt
+of_none (Some files) = refl
 
-module _ (o : Options) (s : Sniffed) (held : Told) (word name : List ℕ) (later : List (List ℕ)) (number : ℕ) (load : BatchLoad) (is : IsSoFar o s held word (name ∷ later) number load) (left : Option (List ℕ)) where
-  pub may_join : (file : Load) → IsReadWhole o.max_input held name left (λ input. IsLoad o s number input file) → CanJoin load file
-  may_join file read = can_join o s is.names is.inputs name read.0 number load file is.loads read.3
+abbrev pub none_read : (limit : ℕ) (held : Told) (all : List (List ℕ)) → AreSoFar limit held all all
+none_read limit held all = record { names = []; inputs = []; split = refl; as_many = refl; short = tt; of = of_none held }
 
-  pub next_file : (file : Load) (read : IsReadWhole o.max_input held name left (λ input. IsLoad o s number input file)) → (number ≡ 0 → s ≡ found o read.0) →
-      IsSoFar o s held word later (number + 1) (with_load load name file)
-  next_file file read first = record {
+module _ (limit : ℕ) (held : Told) (all : List (List ℕ)) (name : List ℕ) (later : List (List ℕ)) (is : AreSoFar limit held all (name ∷ later)) (left : Option (List ℕ)) where
+  abbrev pub one_more_read : (input : List ℕ) → IsInput limit held name input left → length input ≤ limit → AreSoFar limit held all later
+  one_more_read input read fits = record {
     names = is.names ++ name ∷ [];
-    inputs = is.inputs ++ read.0 ∷ [];
-    all = is.all ∙ sym (append_assoc is.names (name ∷ []) later);
-    as_many = omega (arith, length-append is.names (name ∷ []), length-append is.inputs (read.0 ∷ []), is.as_many);
-    numbered = omega (arith, length-append is.inputs (read.0 ∷ []), is.numbered);
-    found_in = found-more o s is.inputs read.0 is.found_in (λ none. first (is.numbered ∙ none));
-    short = short-more o.max_input is.inputs read.0 is.short read.2;
-    of = of-more held is.names is.inputs name read.0 is.of (one_read o.max_input held name read.0 left read.1 read.2).0;
-    loads = one_more o s is.names is.inputs name read.0 load file is.as_many is.loads (subst (λ n. IsLoad o s n read.0 file) is.numbered read.3);
+    inputs = is.inputs ++ input ∷ [];
+    split = is.split ∙ sym (append_assoc is.names (name ∷ []) later);
+    as_many = omega (arith, length-append is.names (name ∷ []), length-append is.inputs (input ∷ []), is.as_many);
+    short = short-more limit is.inputs input is.short fits;
+    of = of-more held is.names is.inputs name input is.of (one_read limit held name input left read fits).0;
   }
 
-  pub none_left : (Holds : List ℕ → Type 0) → IsReadWhole o.max_input held name left Holds → LeavesNone held left
-  none_left Holds read = (one_read o.max_input held name read.0 left read.1 read.2).1
-
   -- the file that decides: too large, or not there
-  pub over_told : IsReadOver o.max_input held name left → IsOutcomeOfFiles o word held left (outcomes.TooLarge o.max_input)
+  pub over_told : IsReadOver limit held name left → AreRead limit held all left (IsOver limit)
   over_told read = by_told held is.of read.1 where
-    limit : ℕ
-    limit = o.max_input
-
     before : List (Option (List ℕ))
     before = map (λ input. Some input) is.inputs
 
     long : (whole : List ℕ) → length (take (limit + 1) whole) ≡ limit + 1 → limit < length whole
     long whole full = omega (arith, full, length-take (limit + 1) whole)
 
-    counted : (opened : Option (List ℕ)) (others : List (Option (List ℕ))) → length others ≡ length later → length (before ++ opened ∷ others) ≡ length (file_names word)
+    counted : (opened : Option (List ℕ)) (others : List (Option (List ℕ))) → length others ≡ length later → length (before ++ opened ∷ others) ≡ length all
     counted opened others same =
-        omega (arith, length-append before (opened ∷ others), length-map is.inputs (λ (input : List ℕ). Some input), is.as_many, ap length is.all, length-append is.names (name ∷ later), same)
+        omega (arith, length-append before (opened ∷ others), length-map is.inputs (λ (input : List ℕ). Some input), is.as_many, ap length is.split, length-append is.names (name ∷ later), same)
 
-    refused : (input : List ℕ) (others : List (Option (List ℕ))) → limit < length input → outcomes.TooLarge limit ≡ batch_outcome o (file_names word) (before ++ Some input ∷ others)
+    refused : (input : List ℕ) (others : List (Option (List ℕ))) → limit < length input → IsOver limit (before ++ Some input ∷ others)
     refused input others over =
-        ap (λ refusal. unwrap_or refusal (inputs_outcome o (file_names word) (filter_map (λ x. x) (before ++ Some input ∷ others))))
-        (sym (decides limit is.inputs (Some input) others (outcomes.TooLarge limit) is.short (ap (λ t. cond t (Some (outcomes.TooLarge limit)) (batch_refusal limit others)) (lt-ltb limit (length input) over))))
+        decides limit is.inputs (Some input) others (outcomes.TooLarge limit) is.short (ap (λ t. cond t (Some (outcomes.TooLarge limit)) (batch_refusal limit others)) (lt-ltb limit (length input) over))
 
-    by_told : (told : Told) → AreOf told is.names is.inputs → IsInput limit told name read.0 left → IsOutcomeOfFiles o word told left (outcomes.TooLarge limit)
+    by_told : (told : Told) → AreOf told is.names is.inputs → IsInput limit told name read.0 left → AreRead limit told all left (IsOver limit)
     by_told None of input =
         let over : limit < length read.0 = omega (arith, read.2) in
         let others : List (Option (List ℕ)) = map (λ _. None) later in
@@ -182,68 +157,91 @@ module _ (o : Options) (s : Sniffed) (held : Told) (word name : List ℕ) (later
         let whole : List ℕ = input.0 in
         let over : limit < length whole = long whole (ap length (sym input.2) ∙ read.2) in
         let others : List (Option (List ℕ)) = map (file_of files) later in
-        let opened : map (file_of files) (file_names word) ≡ before ++ Some whole ∷ others =
-        ap (map (file_of files)) is.all ∙ map-append (file_of files) is.names (name ∷ later) ∙ (λ i. of i ++ input.1 i ∷ others) in (
+        let opened : map (file_of files) all ≡ before ++ Some whole ∷ others =
+        ap (map (file_of files)) is.split ∙ map-append (file_of files) is.names (name ∷ later) ∙ (λ i. of i ++ input.1 i ∷ others) in (
           before ++ Some whole ∷ others,
           counted (Some whole) others (length-map later (file_of files)),
           (sym opened, subst (λ o. IfSome o (λ x. left ≡ Some (drop (limit + 1) x))) (sym (over_last limit is.inputs whole others is.short over)) input.3),
           refused whole others over,
         )
 
-  pub lacks_one : Lacks held name → LacksOne o.max_input held word
+  pub lacks_one : Lacks held name → LacksOne limit held all
   lacks_one lacks = by_told held is.of lacks where
-    by_told : (told : Told) → AreOf told is.names is.inputs → Lacks told name → LacksOne o.max_input told word
+    by_told : (told : Told) → AreOf told is.names is.inputs → Lacks told name → LacksOne limit told all
     by_told None of none = none
     by_told (Some files) of none =
         let others : List (Option (List ℕ)) = map (file_of files) later in
-        ap (batch_refusal o.max_input)
-        (ap (map (file_of files)) is.all ∙ map-append (file_of files) is.names (name ∷ later) ∙ (λ i. of i ++ none i ∷ others))
-        ∙ decides o.max_input is.inputs None others outcomes.ReadFault is.short refl
+        ap (batch_refusal limit)
+        (ap (map (file_of files)) is.split ∙ map-append (file_of files) is.names (name ∷ later) ∙ (λ i. of i ++ none i ∷ others))
+        ∙ decides limit is.inputs None others outcomes.ReadFault is.short refl
 
--- ---- all files
+pub none_left : (limit : ℕ) (held : Told) (name : List ℕ) (left : Option (List ℕ)) (Holds : List ℕ → Type 0) → IsReadWhole limit held name left Holds → LeavesNone held left
+none_left limit held name left Holds read = (one_read limit held name read.0 left read.1 read.2).1
 
-module _ (o : Options) (s : Sniffed) (held : Told) (word : List ℕ) (number : ℕ) (load : BatchLoad) (is : IsSoFar o s held word [] number load) (some : 0 < number) (left : Option (List ℕ)) where
-  all_named : is.names ≡ file_names word
-  all_named = sym (is.all ∙ append-nil is.names)
+-- the only file decides: too large, or not there, unless the source failed
+module _ (limit : ℕ) (held : Told) (name : List ℕ) (left : Option (List ℕ)) where
+  pub over_alone : IsReadOver limit held name left → AreRead limit held (name ∷ []) left (IsOver limit)
+  over_alone = over_told limit held (name ∷ []) name [] (none_read limit held (name ∷ [])) left
 
+  pub lacks_alone : {Rises : Type 0} → Rises ⊎ Lacks held name → Rises ⊎ LacksOne limit held (name ∷ [])
+  lacks_alone (inl rises) = inl rises
+  lacks_alone (inr lacks) = inr (lacks_one limit held (name ∷ []) name [] (none_read limit held (name ∷ [])) left lacks)
+
+-- all files were read, and none decides
+module _ (limit : ℕ) (held : Told) (all : List (List ℕ)) (is : AreSoFar limit held all []) (left : Option (List ℕ)) where
+  pub all_named : is.names ≡ all
+  all_named = sym (is.split ∙ append-nil is.names)
+
+  pub all_read : LeavesNone held left → (Holds : List (List ℕ) → Type 0) → Holds is.inputs →
+      AreRead limit held all left (λ opened. (batch_refusal limit opened ≡ None) × Holds (filter_map (λ input. input) opened))
+  all_read none Holds holds =
+      let opened : List (Option (List ℕ)) = map (λ input. Some input) is.inputs in
+      let as_many : length opened ≡ length all = omega (arith, length-map is.inputs (λ (input : List ℕ). Some input), is.as_many, ap length all_named) in
+      (opened, as_many, by_told held is.of none, (none_refused limit is.inputs is.short, subst Holds (sym (all_given is.inputs)) holds)) where
+        by_told : (told : Told) → AreOf told is.names is.inputs → LeavesNone told left → AreOpened limit told all (map (λ input. Some input) is.inputs) left
+        by_told None of none = tt
+        by_told (Some files) of none = (sym of ∙ ap (map (file_of files)) all_named, last_of_short limit is.inputs left is.short none)
+
+-- ---- with what they come to
+
+pub record IsSoFar (o : Options) (s : Sniffed) (held : Told) (all later : List (List ℕ)) (number : ℕ) (load : Load) : Type 0 where
+  pub read : AreSoFar o.max_input held all later
+  pub numbered : number ≡ length read.inputs
+  pub found_in : IsFoundIn o s read.inputs
+  pub loads : IsSoFarLoad o s read.names read.inputs load
+
+pub none_so_far : (o : Options) (s : Sniffed) (held : Told) (all : List (List ℕ)) → IsSoFar o s held all all 0 (no_files s.types)
+none_so_far o s held all = record { read = none_read o.max_input held all; numbered = refl; found_in = tt; loads = none_loaded o s }
+
+module _ (o : Options) (s : Sniffed) (held : Told) (all : List (List ℕ)) (name : List ℕ) (later : List (List ℕ)) (number : ℕ) (load : Load) (is : IsSoFar o s held all (name ∷ later) number load) (left : Option (List ℕ)) where
+  pub may_join : (file : FileLoad) → IsReadWhole o.max_input held name left (λ input. IsFileLoad o s number input file) → CanJoin load file
+  may_join file read = can_join o s is.read.names is.read.inputs name read.0 number load file is.loads read.3
+
+  pub next_file : (file : FileLoad) (read : IsReadWhole o.max_input held name left (λ input. IsFileLoad o s number input file)) → (number ≡ 0 → s ≡ found o read.0) →
+      IsSoFar o s held all later (number + 1) (with_load load name file)
+  next_file file read first = record {
+    read = one_more_read o.max_input held all name later is.read left read.0 read.1 read.2;
+    numbered = omega (arith, length-append is.read.inputs (read.0 ∷ []), is.numbered);
+    found_in = found-more o s is.read.inputs read.0 is.found_in (λ none. first (is.numbered ∙ none));
+    loads = one_more o s is.read.names is.read.inputs name read.0 load file is.read.as_many is.loads (subst (λ n. IsFileLoad o s n read.0 file) is.numbered read.3);
+  }
+
+module _ (o : Options) (s : Sniffed) (held : Told) (all : List (List ℕ)) (number : ℕ) (load : Load) (is : IsSoFar o s held all [] number load) where
   found_first : (inputs : List (List ℕ)) → IsFoundIn o s inputs → 0 < length inputs → s ≡ found_in_first o inputs
   found_first [] found none = absurd (let wrong : ⊥ = omega (arith, none) in wrong)
   found_first (input ∷ inputs) found there = found
 
-  loaded_is : (l : BatchLoad) → IsBatchLoad o s is.names is.inputs l → load_outcome o s l ≡ unless_batch_error o s is.names is.inputs (batch_error o s is.inputs)
-  loaded_is (batches.FirstError reject) loads = ap (unless_batch_error o s is.names is.inputs) (sym loads)
-  loaded_is (batches.Whole batch stats) loads =
-      (λ i. outcomes.Batch s (loads.1 i) o.store_rejects (then_some o.stats (loads.2 i))) ∙ ap (unless_batch_error o s is.names is.inputs) (sym loads.0)
+  pub all_loaded : 0 < number → (left : Option (List ℕ)) → LeavesNone held left → AreRead o.max_input held all left (IsLoadOf o all s load)
+  all_loaded some left none =
+      let there : 0 < length is.read.inputs = omega (arith, some, is.numbered) in
+      let read = all_read o.max_input held all is.read left none (λ inputs. (s ≡ found_in_first o inputs) × (load ≡ load_of o s all inputs)) (
+        found_first is.read.inputs is.found_in there,
+        is_load_of o s is.read.names is.read.inputs load is.loads ∙ ap (λ names. load_of o s names is.read.inputs) (all_named o.max_input held all is.read left),
+      ) in
+      (read.0, read.1, read.2, (read.3.0, read.3.1.0, read.3.1.1))
 
-  -- what they come to
-  come_to : load_outcome o s load ≡ batch_outcome o (file_names word) (map (λ input. Some input) is.inputs)
-  come_to =
-      let there : 0 < length is.inputs = omega (arith, some, is.numbered) in
-      let first : s ≡ found_in_first o is.inputs = found_first is.inputs is.found_in there in
-      loaded_is load is.loads
-      ∙ (λ i. unless_batch_error o (first i) (all_named i) is.inputs (batch_error o (first i) is.inputs))
-      ∙ ap (inputs_outcome o (file_names word)) (sym (all_given is.inputs))
-      ∙ ap (λ refusal. unwrap_or refusal (inputs_outcome o (file_names word) (filter_map (λ x. x) (map (λ input. Some input) is.inputs)))) (sym (none_refused o.max_input is.inputs is.short))
+  pub all_have_files : (left : Option (List ℕ)) → HasFiles (length all) load
+  all_have_files left = subst (λ names. HasFiles (length names) load) (all_named o.max_input held all is.read left) (has_files o s is.read.names is.read.inputs is.read.as_many load is.loads)
 
-  pub all_told : LeavesNone held left → IsOutcomeOfFiles o word held left (load_outcome o s load)
-  all_told none =
-      let as_many : length (map (λ (input : List ℕ). Some input) is.inputs) ≡ length (file_names word) = omega (arith, length-map is.inputs (λ (input : List ℕ). Some input), is.as_many, ap length all_named) in
-      (map (λ input. Some input) is.inputs, as_many, by_told held is.of none, come_to) where
-        by_told : (told : Told) → AreOf told is.names is.inputs → LeavesNone told left → AreOpened o.max_input told (file_names word) (map (λ input. Some input) is.inputs) left
-        by_told None of none = tt
-        by_told (Some files) of none = (sym of ∙ ap (map (file_of files)) all_named, last_of_short o.max_input is.inputs left is.short none)
-
-  -- they have a text
-  pub all_printable : HasColumns (schema_of o s) → IsPrintable (load_outcome o s load)
-  all_printable columns = by_load load is.loads where
-    prints : All (IsRowOf s.types) ((batch_of o s is.names is.inputs).rows)
-    prints = readings_print o s 0 is.inputs
-
-    by_load : (l : BatchLoad) → IsBatchLoad o s is.names is.inputs l → IsPrintable (load_outcome o s l)
-    by_load (batches.FirstError reject) loads = columns.same
-    by_load (batches.Whole batch stats) loads = let rows = (batch_of o s is.names is.inputs).rows in record {
-      names = columns.same;
-      types = ap (λ (b : BatchView). b.types) loads.1;
-      rows = subst (λ (b : BatchView). All (λ cells. fit_all s.types cells ≡ true) b.rows) (sym loads.1) (All-weaker (IsRowOf s.types) (λ cells. fit_all s.types cells ≡ true) (λ cells row. row.0) rows prints);
-      values = subst (λ (b : BatchView). All (λ cells. All IsSpelledCell cells) b.rows) (sym loads.1) (All-weaker (IsRowOf s.types) (λ cells. All IsSpelledCell cells) (λ cells row. row.1) rows prints);
-    }
+  pub all_printable : length s.names ≡ length s.types → IsPrintableFiles s load
+  all_printable same = all_print o s is.read.names is.read.inputs load same is.loads

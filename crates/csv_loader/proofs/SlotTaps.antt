@@ -8,7 +8,7 @@ use Rattle.column_taps.specs.declared.slot.Slot.TheVariants.{Live, Over}
 use Rattle.column_taps.specs.Seen.{Seen, counted, IsFresh}
 use Rattle.column_taps.specs.Course.{Course, going, over_at}
 use Rattle.column_taps.specs.Slots.{course_in}
-use Rattle.csv_loader.specs.Reply.{seen_in, AreNew}
+use Rattle.csv_loader.specs.Showing.{seen_in, AreNew}
 
 abbrev seen_of : Course → Seen
 seen_of (going seen) = seen

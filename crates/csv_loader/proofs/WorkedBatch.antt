@@ -1,18 +1,17 @@
--- Worked runs over several files: the options, the word, the files and what is answered.
+-- Worked runs over several files: the words, the files and what is answered.
 use Rattle.std.specs.Prelude.{◌≡◌, ◌++◌, [], ◌∷◌, codes, Some, IsSomeAnd, refl}
 use Rattle.std.specs.Str.{is_utf8, chars}
 use Rattle.std.specs.Str.Lossy.{utf8_valid_len}
 use Rattle.std.specs.Fmt.{digits}
 use lib.Utf8.{encode}
-use Rattle.load_options.specs.Request.{options_given}
 use Rattle.csv_loader.specs.Batch.{last_read}
 use Rattle.reject_book.specs.declared.reject.ErrorKind.TheVariants.{Cast}
 use Rattle.csv_loader.specs.declared.ending.Ending.TheVariants as endings
-use Rattle.csv_loader.specs.Reply.{reply, files_reply}
+use Rattle.csv_loader.specs.Reply.{reply, reply_of}
 use Rattle.csv_loader.proofs.Worked.{rejected}
 
-stored : files_reply (options_given (codes "store_rejects=true" ∷ [])) (codes "a.csv,b.csv")
-    (Some ((codes "a.csv", codes "id,v\n1,a\n") ∷ (codes "b.csv", codes "id,v\nx,b\n2,c\n") ∷ []))
+stored : reply_of (codes "batch" ∷ codes "a.csv,b.csv" ∷ codes "store_rejects=true" ∷ [])
+    (Some ((codes "a.csv", codes "id,v\n1,a\n") ∷ (codes "b.csv", codes "id,v\nx,b\n2,c\n") ∷ [])) []
     ≡ Some (reply (endings.Answered 1)
     (codes "options|delim=,|quote=\"|escape=\"|newline=\\n|skip=0|header=true\n"
     ++ codes "column|0|BIGINT|id\n"
@@ -27,8 +26,8 @@ stored : files_reply (options_given (codes "store_rejects=true" ∷ [])) (codes 
 unfolding digits is_utf8 chars encode utf8_valid_len
 stored = refl
 
-first_error : IsSomeAnd (files_reply (options_given []) (codes "a.csv,b.csv")
-    (Some ((codes "a.csv", codes "id,v\n1,a\n") ∷ (codes "b.csv", codes "id,v\nx,b\n2,c\n") ∷ []))) (λ r. (r.status ≡ 3)
+first_error : IsSomeAnd (reply_of (codes "batch" ∷ codes "a.csv,b.csv" ∷ [])
+    (Some ((codes "a.csv", codes "id,v\n1,a\n") ∷ (codes "b.csv", codes "id,v\nx,b\n2,c\n") ∷ [])) []) (λ r. (r.status ≡ 3)
     × (rejected r.ending ≡ Some (record {
       scan_id = 0;
       file_id = 1;
@@ -49,22 +48,22 @@ first_error : IsSomeAnd (files_reply (options_given []) (codes "a.csv,b.csv")
 unfolding digits is_utf8 chars encode utf8_valid_len
 first_error = (refl, refl, refl)
 
-missing : files_reply (options_given []) (codes "a.csv,c.csv")
-    (Some ((codes "a.csv", codes "id,v\n1,a\n") ∷ []))
+missing : reply_of (codes "batch" ∷ codes "a.csv,c.csv" ∷ [])
+    (Some ((codes "a.csv", codes "id,v\n1,a\n") ∷ [])) []
     ≡ Some (reply endings.ReadFault (codes "fault|read\n"))
 unfolding digits is_utf8 chars encode utf8_valid_len
 missing = refl
 
 -- the first one that can't be read whole decides
-too_large_first : files_reply (options_given (codes "max_input=5" ∷ [])) (codes "a.csv,c.csv")
-    (Some ((codes "a.csv", codes "id,v\n1,a\n") ∷ []))
+too_large_first : reply_of (codes "batch" ∷ codes "a.csv,c.csv" ∷ codes "max_input=5" ∷ [])
+    (Some ((codes "a.csv", codes "id,v\n1,a\n") ∷ [])) []
     ≡ Some (reply (endings.TooLarge 5) (codes "fault|input over 5 bytes\n"))
 unfolding digits is_utf8 chars encode utf8_valid_len
 too_large_first = refl
 
 -- the same file twice, with its numbers added
-twice : files_reply (options_given (codes "ignore_errors=true" ∷ codes "stats=true" ∷ [])) (codes "b.csv,b.csv")
-    (Some ((codes "b.csv", codes "id,v\nx,b\n2,c\n") ∷ []))
+twice : reply_of (codes "batch" ∷ codes "b.csv,b.csv" ∷ codes "ignore_errors=true" ∷ codes "stats=true" ∷ [])
+    (Some ((codes "b.csv", codes "id,v\nx,b\n2,c\n") ∷ [])) []
     ≡ Some (reply (endings.Answered 0)
     (codes "options|delim=,|quote=\"|escape=\"|newline=\\n|skip=0|header=true\n"
     ++ codes "column|0|VARCHAR|id\n"

@@ -1,6 +1,5 @@
 -- What several files come to, each read under what is found in the first one (this loader's profile).
-use Rattle.std.specs.Prelude.{ℕ, ◌+◌, nat_lt, if◌then◌else◌, List, [], ◌∷◌, length, drop, map, sum, flat_map, Option, Some, None, unwrap_or, ◌≡◌, ◌≤◌, IfSome, ⊤}
-use Rattle.std.specs.Bool.{then_some}
+use Rattle.std.specs.Prelude.{ℕ, ◌+◌, nat_lt, if◌then◌else◌, Bool, List, [], ◌∷◌, length, drop, map, sum, flat_map, Option, Some, None, ◌≡◌, ◌≤◌, IfSome, ⊤}
 use Rattle.std.specs.List.{filter_map}
 use Rattle.value_types.specs.Datum.{Datum}
 use Rattle.load_options.specs.declared.options.Options.{Options}
@@ -11,6 +10,7 @@ use Rattle.reject_book.specs.Kept.{book_of}
 use Rattle.reject_book.specs.Verdict.{Verdict}
 use Rattle.file_list.specs.BatchView.{BatchView, with_file}
 use Rattle.file_list.specs.declared.batch.FileBook.{FileBook}
+use Rattle.report_text.specs.Printable.{IsPrintableBatch}
 use Rattle.report_text.specs.declared.outcome.Stats.{Stats}
 use Rattle.report_text.specs.declared.outcome.Outcome.{Outcome}
 use Rattle.report_text.specs.declared.outcome.Outcome.TheVariants as outcomes
@@ -18,10 +18,10 @@ use Rattle.csv_loader.specs.Reading.{file_reading, table_rows, faults, keep_of, 
 use Rattle.csv_source.specs.Files.{file_of, Opens}
 use Rattle.load_options.specs.FileNames.{file_names}
 use Rattle.value_types.specs.declared.types.ColumnType.{ColumnType}
-use Rattle.csv_loader.specs.declared.batch.BatchLoad.{BatchLoad}
-use Rattle.csv_loader.specs.declared.batch.BatchLoad.TheVariants as batches
-use Rattle.csv_loader.specs.declared.loading.Load.{Load}
-use Rattle.csv_loader.specs.declared.loading.Load.TheVariants as loads
+use Rattle.csv_loader.specs.declared.batch.Load.{Load}
+use Rattle.csv_loader.specs.declared.batch.Load.TheVariants as loads
+use Rattle.csv_loader.specs.declared.loading.FileLoad.{FileLoad}
+use Rattle.csv_loader.specs.declared.loading.FileLoad.TheVariants as file_loads
 use Rattle.csv_loader.specs.declared.loading.LoadedData.{LoadedData}
 use Rattle.csv_loader.specs.Loading.{IsInput}
 
@@ -68,12 +68,13 @@ batch_stats o s inputs = let stats = map (file_stats o s) inputs in record {
   scanned = sum (map (λ each. each.scanned) stats);
 }
 
-abbrev pub unless_batch_error : Options → Sniffed → List (List ℕ) → List (List ℕ) → Option Reject → Outcome
-unless_batch_error o s names inputs None = outcomes.Batch s (batch_of o s names inputs) o.store_rejects (then_some o.stats (batch_stats o s inputs))
-unless_batch_error o s names inputs (Some reject) = outcomes.FirstError s reject
+-- what inputs come to under what was found in the first one: all of them, or the first error
+abbrev pub unless_error : Load → Option Reject → Load
+unless_error load None = load
+unless_error load (Some reject) = loads.FirstError reject
 
-abbrev pub inputs_outcome : Options → List (List ℕ) → List (List ℕ) → Outcome
-inputs_outcome o names inputs = let s = found_in_first o inputs in unless_batch_error o s names inputs (batch_error o s inputs)
+abbrev pub load_of : Options → Sniffed → List (List ℕ) → List (List ℕ) → Load
+load_of o s names inputs = unless_error (loads.Whole (batch_of o s names inputs) (batch_stats o s inputs)) (batch_error o s inputs)
 
 -- ---- files that may not be there, or be too large
 
@@ -86,10 +87,6 @@ refused_or limit (Some input) later = if nat_lt limit (length input) then Some (
 abbrev pub batch_refusal : ℕ → List (Option (List ℕ)) → Option Outcome
 batch_refusal limit [] = None
 batch_refusal limit (opened ∷ others) = refused_or limit opened (batch_refusal limit others)
-
--- what the files of some names come to, each an input where it is there
-abbrev pub batch_outcome : Options → List (List ℕ) → List (Option (List ℕ)) → Outcome
-batch_outcome o names opened = unwrap_or (batch_refusal o.max_input opened) (inputs_outcome o names (filter_map (λ input. input) opened))
 
 -- the input that is read last: the first over the limit, else the last one; none behind a file that isn't there
 abbrev pub last_read : ℕ → List (Option (List ℕ)) → Option (List ℕ)
@@ -112,36 +109,37 @@ IsReadWhole limit held name left Holds = (input : List ℕ) × IsInput limit hel
 abbrev pub IsReadOver : ℕ → Option (List (List ℕ × List ℕ)) → List ℕ → Option (List ℕ) → Type 0
 IsReadOver limit held name left = (input : List ℕ) × IsInput limit held name input left × (length input ≡ limit + 1)
 
--- ---- all of them
-
--- the files so far, or the first error where it ends the load
-abbrev pub IsBatchLoad : Options → Sniffed → List (List ℕ) → List (List ℕ) → BatchLoad → Type 0
-IsBatchLoad o s names inputs (batches.Whole batch stats) =
-    (batch_error o s inputs ≡ None) × (batch ≡ batch_of o s names inputs) × (stats ≡ batch_stats o s inputs)
-IsBatchLoad o s names inputs (batches.FirstError reject) = batch_error o s inputs ≡ Some reject
+-- ---- several files, one after another
 
 -- no files
-abbrev pub no_files : List ColumnType → BatchLoad
-no_files tys = batches.Whole (record { types = tys; rows = []; files = [] }) (record { ranges = 0; rescans = 0; scanned = 0 })
+abbrev pub no_files : List ColumnType → Load
+no_files tys = loads.Whole (record { types = tys; rows = []; files = [] }) (record { ranges = 0; rescans = 0; scanned = 0 })
 
 -- all files so far with all of one more
-abbrev pub with_loaded : BatchView → Stats → List ℕ → LoadedData → BatchLoad
+abbrev pub with_loaded : BatchView → Stats → List ℕ → LoadedData → Load
 with_loaded batch stats name loaded =
-    batches.Whole (with_file batch loaded.table.rows (record { name = name; book = loaded.book })) (both_stats stats loaded.stats)
+    loads.Whole (with_file batch loaded.table.rows (record { name = name; book = loaded.book })) (both_stats stats loaded.stats)
 
 -- with what one more file comes to; a first error stays
-abbrev pub with_load : BatchLoad → List ℕ → Load → BatchLoad
-with_load (batches.FirstError reject) name load = batches.FirstError reject
-with_load (batches.Whole batch stats) name (loads.FirstError reject) = batches.FirstError reject
-with_load (batches.Whole batch stats) name (loads.Whole loaded) = with_loaded batch stats name loaded
+abbrev pub with_load : Load → List ℕ → FileLoad → Load
+with_load (loads.FirstError reject) name load = loads.FirstError reject
+with_load (loads.Whole batch stats) name (file_loads.FirstError reject) = loads.FirstError reject
+with_load (loads.Whole batch stats) name (file_loads.Whole loaded) = with_loaded batch stats name loaded
 
 -- tables that are joined have the same types
-abbrev pub CanJoin : BatchLoad → Load → Type 0
-CanJoin (batches.FirstError reject) load = ⊤
-CanJoin (batches.Whole batch stats) (loads.FirstError reject) = ⊤
-CanJoin (batches.Whole batch stats) (loads.Whole loaded) = batch.types ≡ loaded.table.types
+abbrev pub CanJoin : Load → FileLoad → Type 0
+CanJoin (loads.FirstError reject) load = ⊤
+CanJoin (loads.Whole batch stats) (file_loads.FirstError reject) = ⊤
+CanJoin (loads.Whole batch stats) (file_loads.Whole loaded) = batch.types ≡ loaded.table.types
 
--- ---- what comes of a word
+-- the names of a word: several, cut at each comma, or the word itself
+abbrev pub names_of : Bool → List ℕ → List (List ℕ)
+names_of several word = if several then file_names word else word ∷ []
+
+-- the names of the text behind a comma, where there is one
+abbrev pub names_behind : Option (List ℕ) → List (List ℕ)
+names_behind None = []
+names_behind (Some text) = file_names text
 
 -- what was opened is what the files tell, and what is left is what stands behind the first byte over the limit of the file that was read last
 abbrev pub AreOpened : ℕ → Option (List (List ℕ × List ℕ)) → List (List ℕ) → List (Option (List ℕ)) → Option (List ℕ) → Type 0
@@ -149,22 +147,31 @@ AreOpened limit None names opened left = ⊤
 AreOpened limit (Some files) names opened left =
     (opened ≡ map (file_of files) names) × IfSome (last_read limit opened) (λ input. left ≡ Some (drop (limit + 1) input))
 
--- the outcome is that of what was opened, one for each name
-abbrev pub IsOutcomeOfFiles : Options → List ℕ → Option (List (List ℕ × List ℕ)) → Option (List ℕ) → Outcome → Type 0
-IsOutcomeOfFiles o word held left outcome = (opened : List (Option (List ℕ)))
-    × (length opened ≡ length (file_names word)) × AreOpened o.max_input held (file_names word) opened left × (outcome ≡ batch_outcome o (file_names word) opened)
+-- files were opened, one for each name, and a fact holds of what they had to be read
+abbrev pub AreRead : ℕ → Option (List (List ℕ × List ℕ)) → List (List ℕ) → Option (List ℕ) → (List (Option (List ℕ)) → Type 0) → Type 0
+AreRead limit held names left Holds =
+    (opened : List (Option (List ℕ))) × (length opened ≡ length names) × AreOpened limit held names opened left × Holds opened
+
+-- no file decides, and what was found and loaded is that of all inputs
+abbrev pub IsLoadOf : Options → List (List ℕ) → Sniffed → Load → List (Option (List ℕ)) → Type 0
+IsLoadOf o names s load opened = let inputs = filter_map (λ input. input) opened in
+    (batch_refusal o.max_input opened ≡ None) × (s ≡ found_in_first o inputs) × (load ≡ load_of o s names inputs)
+
+-- the first file that decides is over the limit
+abbrev pub IsOver : ℕ → List (Option (List ℕ)) → Type 0
+IsOver limit opened = batch_refusal limit opened ≡ Some (outcomes.TooLarge limit)
 
 -- the files are told, and the first that decides isn't there
-abbrev pub LacksOne : ℕ → Option (List (List ℕ × List ℕ)) → List ℕ → Type 0
-LacksOne limit None word = ⊥
-LacksOne limit (Some files) word = batch_refusal limit (map (file_of files) (file_names word)) ≡ Some outcomes.ReadFault
+abbrev pub LacksOne : ℕ → Option (List (List ℕ × List ℕ)) → List (List ℕ) → Type 0
+LacksOne limit None names = ⊥
+LacksOne limit (Some files) names = batch_refusal limit (map (file_of files) names) ≡ Some outcomes.ReadFault
 
--- the names of the text behind a comma, where there is one
-abbrev pub names_behind : Option (List ℕ) → List (List ℕ)
-names_behind None = []
-names_behind (Some text) = file_names text
+-- so many files are loaded
+abbrev pub HasFiles : ℕ → Load → Type 0
+HasFiles n (loads.Whole batch stats) = length batch.files ≡ n
+HasFiles n (loads.FirstError reject) = ⊤
 
--- what all files come to
-abbrev pub load_outcome : Options → Sniffed → BatchLoad → Outcome
-load_outcome o s (batches.Whole batch stats) = outcomes.Batch s batch o.store_rejects (then_some o.stats stats)
-load_outcome o s (batches.FirstError reject) = outcomes.FirstError s reject
+-- each answer to what was found and loaded has a text
+abbrev pub IsPrintableFiles : Sniffed → Load → Type 0
+IsPrintableFiles s (loads.Whole batch stats) = IsPrintableBatch s batch
+IsPrintableFiles s (loads.FirstError reject) = length s.names ≡ length s.types

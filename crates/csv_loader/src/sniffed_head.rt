@@ -12,6 +12,7 @@ ghost use Rattle.window_load.specs.declared.stop.LoadStop.TheVariants as stops;
 ghost use Rattle.csv_loader.specs.Loading.{IsHead, IsFinding, IsSniffedHead};
 ghost use Rattle.csv_loader.specs.Reading.{schema_of};
 
+use crate::loader::Loader;
 use csv_sniffer::{Finding, sniff_input};
 use csv_source::{NoMemory, Source};
 use load_options::Options;
@@ -43,71 +44,71 @@ fn sniff_kept(alloc: Global, options: &Options, head: &InputWindow) -> Result<Fi
     sniff_input(alloc, options, head.bytes())
 }
 
-/// Looks at the sample of a head, and meanwhile reads on, on a thread beside it, for what the first crew will ask for, and no
-/// further than a step behind the head where it has more.
-fn sniff_beside<R: Threads + Sync, S: Source + Send>(
-    rt: &R,
-    alloc: Global,
-    options: &Options,
-    head: &InputWindow,
-    next: &mut InputWindow,
-    source: &mut S,
-) -> (Result<Finding, NoMemory>, Result<(), LoadStop>)
-    requires within { IsAccepted options.now }
-    requires at_end { next.old.ended ≡ true → IsAtEnd (S.left source.old) }
-    ensures ok { IfOk result.0 (IsFinding options.now head.now.kept) }
-    ensures columns { IfOk result.0 (λ finding. HasColumns (schema_of options.now finding.sniffed)) }
-    ensures filled { IfOk result.1 (λ _. reach next.new ≤ next.new.most) }
-    ensures too_large { result.1 ≡ Err stops.TooLarge → reach next.new ≡ next.new.most + 1 }
-    ensures moved { MovesFront (S.left source.old) (S.left source.new) next.old.kept next.new.kept }
-    ensures within { length next.new.kept ≤ fill_limit (group_reach options.now.range_size options.now.max_line_size) (length next.old.kept) }
-    ensures same { (next.new.base ≡ next.old.base) × (next.new.most ≡ next.old.most) }
-    ensures at_end { next.new.ended ≡ true → IsAtEnd (S.left source.new) }
-    ensures held { S.held source.new ≡ S.held source.old }
-    ensures count { S.faults source.old ≤ S.faults source.new }
-    ensures failed { result.1 ≡ Err stops.Failed → Rose (S.faults source.old) (S.faults source.new) }
-{
-    let group = group_reach(options.range_size, options.max_line_size);
-    let (filled, found) = join_mut(
-        rt,
-        &mut || { next.fill_to(source, group) },
-        &mut ||
-            requires { IsAccepted options.now }
-        { sniff_kept(alloc, options, head) },
-    );
-    (found, filled)
-}
-
-/// Finds what is in the sample of an input whose head was read. With several workers the input is read on meanwhile, into a
-/// copy of the head, as far as the first crew needs it.
-pub fn sniff_head<R: Threads + Sync, S: Source + Send>(
-    rt: &R,
-    alloc: Global,
-    options: &Options,
-    head: InputWindow,
-    source: &mut S,
-) -> Result<SniffedHead, LoadStop>
-    requires within { IsAccepted options.now }
-    requires head { IsHead options.now.skip options.now.max_input head }
-    requires at_end { head.ended ≡ true → IsAtEnd (S.left source.old) }
-    ensures ok { IfOk result (IsSniffedHead options.now (S.left source.old) (S.left source.new) head) }
-    ensures columns { IfOk result (λ read. HasColumns (schema_of options.now read.finding.sniffed)) }
-    ensures at_end { IfOk result (λ read. read.head.ended ≡ true → IsAtEnd (S.left source.new)) }
-    ensures too_large { result ≡ Err stops.TooLarge → ComesOver (S.left source.old) (S.left source.new) head }
-    ensures failed { result ≡ Err stops.Failed → Rose (S.faults source.old) (S.faults source.new) }
-    ensures held { S.held source.new ≡ S.held source.old }
-    ensures count { S.faults source.old ≤ S.faults source.new }
-{
-    if !reads_on(options, &head) {
-        let finding = sniff_kept(alloc, options, &head)?;
-        return Ok(SniffedHead { finding, head });
+impl<'a, R: Threads + Sync, G> Loader<'a, R, G> {
+    /// Looks at the sample of a head, and meanwhile reads on, on a thread beside it, for what the first crew will ask for, and
+    /// no further than a step behind the head where it has more.
+    fn sniff_beside<S: Source + Send>(
+        &self,
+        head: &InputWindow,
+        next: &mut InputWindow,
+        source: &mut S,
+    ) -> (Result<Finding, NoMemory>, Result<(), LoadStop>)
+        requires accepted { IsAccepted self.now.options.now }
+        requires at_end { next.old.ended ≡ true → IsAtEnd (S.left source.old) }
+        ensures ok { IfOk result.0 (IsFinding self.now.options.now head.now.kept) }
+        ensures columns { IfOk result.0 (λ finding. HasColumns (schema_of self.now.options.now finding.sniffed)) }
+        ensures filled { IfOk result.1 (λ _. reach next.new ≤ next.new.most) }
+        ensures too_large { result.1 ≡ Err stops.TooLarge → reach next.new ≡ next.new.most + 1 }
+        ensures moved { MovesFront (S.left source.old) (S.left source.new) next.old.kept next.new.kept }
+        ensures within { let o = self.now.options.now in
+            length next.new.kept ≤ fill_limit (group_reach o.range_size o.max_line_size) (length next.old.kept) }
+        ensures same { (next.new.base ≡ next.old.base) × (next.new.most ≡ next.old.most) }
+        ensures at_end { next.new.ended ≡ true → IsAtEnd (S.left source.new) }
+        ensures held { S.held source.new ≡ S.held source.old }
+        ensures count { S.faults source.old ≤ S.faults source.new }
+        ensures failed { result.1 ≡ Err stops.Failed → Rose (S.faults source.old) (S.faults source.new) }
+    {
+        let (alloc, options) = (self.alloc, self.options);
+        let group = group_reach(options.range_size, options.max_line_size);
+        let (filled, found) = join_mut(
+            self.rt,
+            &mut || { next.fill_to(source, group) },
+            &mut ||
+                requires { IsAccepted options.now }
+            { sniff_kept(alloc, options, head) },
+        );
+        (found, filled)
     }
-    let mut next = InputWindow::new(alloc, options.max_input);
-    next.copy_rest(&head, 0)?;
-    let (found, filled) = sniff_beside(rt, alloc, options, &head, &mut next, source);
-    filled?;
-    Ok(SniffedHead {
-        finding: found?,
-        head: next,
-    })
+
+    /// Finds what is in the sample of an input whose head was read. With several workers the input is read on meanwhile, into
+    /// a copy of the head, as far as the first crew needs it.
+    pub fn sniff_head<S: Source + Send>(
+        &self,
+        head: InputWindow,
+        source: &mut S,
+    ) -> Result<SniffedHead, LoadStop>
+        requires accepted { IsAccepted self.now.options.now }
+        requires head { IsHead self.now.options.now.skip self.now.options.now.max_input head }
+        requires at_end { head.ended ≡ true → IsAtEnd (S.left source.old) }
+        ensures ok { IfOk result (IsSniffedHead self.now.options.now (S.left source.old) (S.left source.new) head) }
+        ensures columns { IfOk result (λ read. HasColumns (schema_of self.now.options.now read.finding.sniffed)) }
+        ensures at_end { IfOk result (λ read. read.head.ended ≡ true → IsAtEnd (S.left source.new)) }
+        ensures too_large { result ≡ Err stops.TooLarge → ComesOver (S.left source.old) (S.left source.new) head }
+        ensures failed { result ≡ Err stops.Failed → Rose (S.faults source.old) (S.faults source.new) }
+        ensures held { S.held source.new ≡ S.held source.old }
+        ensures count { S.faults source.old ≤ S.faults source.new }
+    {
+        if !reads_on(self.options, &head) {
+            let finding = sniff_kept(self.alloc, self.options, &head)?;
+            return Ok(SniffedHead { finding, head });
+        }
+        let mut next = InputWindow::new(self.alloc, self.options.max_input);
+        next.copy_rest(&head, 0)?;
+        let (found, filled) = self.sniff_beside(&head, &mut next, source);
+        filled?;
+        Ok(SniffedHead {
+            finding: found?,
+            head: next,
+        })
+    }
 }
