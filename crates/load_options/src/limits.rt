@@ -29,6 +29,13 @@ pub const REJECTS_LIMIT: NumberRange = NumberRange {
     default: 0,
 };
 
+/// Faults that a table may have; any number of them where no bound is given.
+pub const MAX_ERRORS: NumberRange = NumberRange {
+    least: 0,
+    most: 4_294_967_295,
+    default: 4_294_967_295,
+};
+
 /// Bytes of a row.
 pub const MAX_LINE_SIZE: NumberRange = NumberRange {
     least: 1,
@@ -69,6 +76,12 @@ pub const ROWS: NumberRange = NumberRange {
 
 /// The most bytes of the name of a database's table.
 pub const TABLE_NAME_LIMIT: usize = 1_000;
+
+/// The most columns whose types are given by name.
+pub const COLUMN_TYPES_LIMIT: usize = 1_000;
+
+/// The most texts that stand for null.
+pub const NULLS_LIMIT: usize = 1_000;
 
 /// The most names, or types, of a list.
 pub const COLUMN_LIMIT: usize = 1_000_000;
