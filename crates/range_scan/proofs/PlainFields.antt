@@ -1,24 +1,26 @@
 -- The field of a plain value, and an empty one.
 use Rattle.std.proofs.Common.{◌≡◌, ℕ, zero, suc, take, drop, ◌+◌, ◌-◌, ◌<◌, ◌≤◌, Bool, true, false, ◌&&◌, cond, List, [], ◌∷◌, length, get_or, refl, sym, ◌∙◌, ap, subst, arith}
 use Rattle.std.specs.Prelude.{Option, Some, None, slice_get, slice_range}
-use Rattle.std.specs.List.{list_all}
+use Rattle.std.specs.List.{list_all, list_any}
 use Rattle.std.specs.Option.{is_some}
 use Rattle.std.specs.Str.{bytes_eq}
-use Rattle.std.proofs.lemmas.Bool.{and_parts, and_from, or_left, or_right, true≢false}
+use Rattle.std.proofs.lemmas.Bool.{and_parts, and_from, or_from, or_left, or_right, true≢false}
 use Rattle.std.proofs.lemmas.List.Edits.{get_or-between, length-between}
 use Rattle.std.proofs.lemmas.Option.{none-some, same_Some}
 use Rattle.byte_classes.specs.Class.{class_of}
 use Rattle.byte_classes.specs.Special.{is_special}
 use Rattle.row_fields.specs.declared.field.Ending.TheVariants as ending
 use Rattle.row_fields.specs.Fields.{is_quoted}
+use Rattle.row_fields.proofs.Roles.{or_parts}
 use Rattle.row_fields.proofs.PlainReading.{all_at, bare_field_of, differs, reads_ordinary, reads_plain}
 use Rattle.value_types.specs.declared.types.ColumnType.{ColumnType}
 use Rattle.value_types.specs.declared.types.ColumnType.TheVariants as types
 use Rattle.value_types.specs.Datum.{Datum, null}
+use Rattle.value_types.specs.Null.{is_null}
 use Rattle.value_types.specs.OfType.{typed_cell}
 use Rattle.value_types.specs.Plain.{is_plain, IsPlainAt}
 use Rattle.reject_book.specs.declared.reject.Schema.{Schema}
-use Rattle.reject_book.specs.Casting.{cell_at}
+use Rattle.reject_book.specs.Casting.{cell_at, null_texts}
 use Rattle.range_scan.specs.declared.context.Context.{Context}
 use Rattle.range_scan.specs.FastRows.{begins_plain, is_plain_in, HoldsPlain, IsField}
 
@@ -29,9 +31,15 @@ not_null p [] nullstr some num other = absurd (let n : ⊥ = omega (arith, some)
 not_null p (b ∷ value) [] some num other = refl
 not_null p (b ∷ value) (m ∷ nullstr) some num other = ap (λ t. t && bytes_eq value nullstr) (differs p b m (all_at p (b ∷ value) num 0 (omega arith)) other)
 
-plain_cell : (schema : Schema) (p : ℕ → Bool) (ty : ColumnType) (at : ℕ) (value : List ℕ) → begins_plain p schema.nullstr ≡ false → 0 < length value → list_all p value ≡ true →
+none_null : (p : ℕ → Bool) (value : List ℕ) (texts : List (List ℕ)) → 0 < length value → list_all p value ≡ true → list_any (begins_plain p) texts ≡ false → list_any (bytes_eq value) texts ≡ false
+none_null p value [] some num other = refl
+none_null p value (text ∷ texts) some num other =
+    let parts = or_parts (begins_plain p text) (list_any (begins_plain p) texts) other in
+    or_from (bytes_eq value text) (list_any (bytes_eq value) texts) (not_null p value text some num parts.0) (none_null p value texts some num parts.1)
+
+plain_cell : (schema : Schema) (p : ℕ → Bool) (ty : ColumnType) (at : ℕ) (value : List ℕ) → list_any (begins_plain p) (null_texts schema) ≡ false → 0 < length value → list_all p value ≡ true →
     cell_at schema ty (Some (record { at = at; quoted = false; value = value })) ≡ typed_cell value ty
-plain_cell schema p ty at value other some num = λ i. cond (not_null p value schema.nullstr some num other i && true) (Some null) (typed_cell value ty)
+plain_cell schema p ty at value other some num = λ i. cond (none_null p value (null_texts schema) some num other i && true) (Some null) (typed_cell value ty)
 
 plain_byte_is_ascii : (ty : ColumnType) (b : ℕ) → is_plain ty b ≡ true → b < 128
 plain_byte_is_ascii types.Boolean b is = grind (arith, is)
@@ -88,9 +96,9 @@ module _ (ty : ColumnType) (bytes : List ℕ) (from end : ℕ) (at : IsPlainAt t
 
 -- ---- a field of no bytes
 
-pub empty_field : (context : Context) (ty : ColumnType) (bytes : List ℕ) (from : ℕ) → from < length bytes → length context.schema.nullstr ≡ 0 →
+pub empty_field : (context : Context) (ty : ColumnType) (bytes : List ℕ) (from : ℕ) → from < length bytes → is_null (null_texts context.schema) context.schema.allow_quoted_nulls false [] ≡ true →
     is_special false (class_of context.dialect (get_or bytes from 0)) ≡ true → IsField context ty bytes from from null
-empty_field context ty bytes from high none stops =
+empty_field context ty bytes from high is stops =
     let raw : List ℕ = slice_range bytes from from in
     let no_bytes : raw ≡ [] = slice_none bytes from in
     let bare : is_quoted context.dialect raw ≡ false = ap (is_quoted context.dialect) no_bytes in
@@ -99,11 +107,7 @@ empty_field context ty bytes from high none stops =
       sound = refl;
       reads = reads_ordinary context.dialect bytes from from (omega arith) high bare (λ k lt. absurd (let n : ⊥ = omega (arith, lt, ap length no_bytes) in n)) stops;
       casts = ap (λ f. cell_at context.schema ty (Some f)) (bare_field_of context.dialect from raw bare)
-          ∙ ap (λ v. cond (v && true) (Some null) (typed_cell raw ty)) (ap (λ v. bytes_eq v context.schema.nullstr) no_bytes ∙ empty_is_null context.schema.nullstr none);
+          ∙ ap (λ t. cond t (Some null) (typed_cell raw ty)) (ap (is_null (null_texts context.schema) context.schema.allow_quoted_nulls false) no_bytes ∙ is);
     } where
       slice_none : (xs : List ℕ) (k : ℕ) → slice_range xs k k ≡ []
       slice_none xs k = ap (λ n. take n (drop k xs)) (let same : k - k ≡ 0 = omega arith in same)
-
-      empty_is_null : (nullstr : List ℕ) → length nullstr ≡ 0 → bytes_eq [] nullstr ≡ true
-      empty_is_null [] none = refl
-      empty_is_null (b ∷ nullstr) none = absurd (let n : ⊥ = omega (arith, none) in n)

@@ -3,7 +3,7 @@ use Rattle.std.proofs.Common.{◌≡◌, ℕ, ◌+◌, ◌-◌, ◌<◌, ◌≤�
 use Rattle.std.specs.Prelude.{◌==◌, ◌||◌, IfSome, Option, Some, slice_range}
 use Rattle.std.specs.List.{list_any}
 use Rattle.std.specs.Str.{bytes_eq}
-use Rattle.std.proofs.lemmas.Bool.{ne_eqb, true≢false}
+use Rattle.std.proofs.lemmas.Bool.{ne_eqb, or_from, true≢false}
 use Rattle.std.proofs.lemmas.List.{take_all}
 use Rattle.byte_classes.specs.declared.class.Class.TheVariants as class
 use Rattle.byte_classes.specs.Class.{class_of}
@@ -26,13 +26,13 @@ use Rattle.value_types.specs.declared.types.ColumnType.TheVariants.{Varchar}
 use Rattle.value_types.specs.Datum.{null, text}
 use Rattle.value_types.specs.Null.{is_null}
 use Rattle.reject_book.specs.declared.reject.Schema.{Schema}
-use Rattle.reject_book.specs.Casting.{cell_at, cell_of}
+use Rattle.reject_book.specs.Casting.{cell_at, cell_of, null_texts}
 use Rattle.range_scan.specs.declared.context.Context.{Context}
-use Rattle.range_scan.specs.FastRows.{HoldsFields, IsField, text_cell}
+use Rattle.range_scan.specs.FastRows.{HoldsFields, IsField, has_byte, text_cell}
 use Rattle.row_fields.proofs.PlainReading.{bare_field_of}
 
 text_casts : (schema : Schema) (quoted : Bool) (value : List ℕ) → cell_of schema Varchar quoted value ≡ Some (text_cell schema quoted value)
-text_casts schema quoted value = by_test (is_null schema.nullstr schema.allow_quoted_nulls quoted value) where
+text_casts schema quoted value = by_test (is_null (null_texts schema) schema.allow_quoted_nulls quoted value) where
   by_test : (t : Bool) → cond t (Some null) (Some (text value)) ≡ Some (cond t null (text value))
   by_test true = refl
   by_test false = refl
@@ -75,9 +75,15 @@ other_text q (x ∷ xs) ys [] none = refl
 other_text q (x ∷ xs) ys (m ∷ nullstr) none =
     ap (λ t. (x == m) && t) (other_text q xs ys nullstr (or_parts (m == q) (list_any (λ b. b == q) nullstr) none).1) ∙ and_false (x == m)
 
-quoted_casts : (schema : Schema) (q : ℕ) (value : List ℕ) → list_any (λ b. b == q) schema.nullstr ≡ false → Contains q value → cell_of schema Varchar true value ≡ Some (text value)
+other_texts : (q : ℕ) (value : List ℕ) (texts : List (List ℕ)) → list_any (has_byte q) texts ≡ false → Contains q value → list_any (bytes_eq value) texts ≡ false
+other_texts q value [] none has = refl
+other_texts q value (t ∷ texts) none has =
+    let parts = or_parts (has_byte q t) (list_any (has_byte q) texts) none in
+    or_from (bytes_eq value t) (list_any (bytes_eq value) texts) (ap (λ v. bytes_eq v t) has.is ∙ other_text q has.before has.behind t parts.0) (other_texts q value texts parts.1 has)
+
+quoted_casts : (schema : Schema) (q : ℕ) (value : List ℕ) → list_any (has_byte q) (null_texts schema) ≡ false → Contains q value → cell_of schema Varchar true value ≡ Some (text value)
 quoted_casts schema q value none has =
-    ap (λ t. cond (t && (false || schema.allow_quoted_nulls)) (Some null) (Some (text value))) (ap (λ v. bytes_eq v schema.nullstr) has.is ∙ other_text q has.before has.behind schema.nullstr none)
+    ap (λ t. cond (t && (false || schema.allow_quoted_nulls)) (Some null) (Some (text value))) (other_texts q value (null_texts schema) none has)
 
 -- ---- between doubled quotes
 
@@ -197,8 +203,8 @@ module _ (context : Context) (bytes : List ℕ) (from : ℕ) (sound : IsDialect 
             ∙ ap (λ v. cell_of context.schema Varchar true v) stored
             ∙ quoted_casts context.schema q value (no_quote holds) (by_place so.seen);
       } where
-        no_quote : HoldsFields context → list_any (λ b. b == q) context.schema.nullstr ≡ false
-        no_quote holds = subst (λ (o : Option ℕ). IfSome o (λ m. list_any (λ b. b == m) context.schema.nullstr ≡ false)) doubles.quote holds.quote
+        no_quote : HoldsFields context → list_any (has_byte q) (null_texts context.schema) ≡ false
+        no_quote holds = subst (λ (o : Option ℕ). IfSome o (λ m. list_any (has_byte m) (null_texts context.schema) ≡ false)) doubles.quote holds.quote
 
         eq_self : (n : ℕ) → (n == n) ≡ true
         eq_self n = grind arith

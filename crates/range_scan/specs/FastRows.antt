@@ -20,7 +20,7 @@ use Rattle.value_types.specs.Plain.{is_plain, IsPlainAt}
 use Rattle.column_store.specs.ChunkView.{ChunkView}
 use Rattle.column_store.specs.RowsOfColumns.{HasNoTexts}
 use Rattle.reject_book.specs.declared.reject.Schema.{Schema}
-use Rattle.reject_book.specs.Casting.{cell_at}
+use Rattle.reject_book.specs.Casting.{cell_at, null_texts}
 use Rattle.range_scan.specs.declared.context.Context.{Context}
 use Rattle.range_scan.specs.declared.fast_rows.kinds.FastRows.{FastRows}
 use Rattle.range_scan.specs.declared.fast_rows.kinds.FastRows.TheVariants.{Never, Numbers, Values, Texts}
@@ -34,21 +34,25 @@ abbrev pub begins_plain : (ℕ → Bool) → List ℕ → Bool
 begins_plain p [] = false
 begins_plain p (b ∷ bytes) = p b
 
--- there are columns, and to a byte of a plain value of theirs neither the dialect nor the text that stands for null gives a meaning
+-- whether a byte stands in a text
+abbrev pub has_byte : ℕ → List ℕ → Bool
+has_byte byte bytes = list_any (λ b. b == byte) bytes
+
+-- there are columns, and to a byte of a plain value of theirs neither the dialect nor a text that stands for null gives a meaning
 pub record HoldsPlain (context : Context) : Type 0 where
   pub some : 1 ≤ length context.schema.types
   pub leaves : LeavesPlain (is_plain_in context.schema.types) context.dialect
-  pub null : begins_plain (is_plain_in context.schema.types) context.schema.nullstr ≡ false
+  pub null : list_any (begins_plain (is_plain_in context.schema.types)) (null_texts context.schema) ≡ false
 
 -- and all columns are BIGINT
 pub record HoldsNumbers (context : Context) : Type 0 where
   pub plain : HoldsPlain context
   pub types : All (λ ty. ty ≡ Bigint) context.schema.types
 
--- and no quote stands in the text that stands for null
+-- and no quote stands in a text that stands for null
 pub record HoldsFields (context : Context) : Type 0 where
   pub plain : HoldsPlain context
-  pub quote : IfSome context.dialect.quote (λ q. list_any (λ b. b == q) context.schema.nullstr ≡ false)
+  pub quote : IfSome context.dialect.quote (λ q. list_any (has_byte q) (null_texts context.schema) ≡ false)
 
 -- as what the rows of a file may be tried
 abbrev pub IsKindOf : Context → FastRows → Type 0
@@ -59,7 +63,7 @@ IsKindOf context Texts = HoldsFields context
 
 -- the cell of a text, by whether it stands between quotes
 abbrev pub text_cell : Schema → Bool → List ℕ → Datum
-text_cell schema quoted value = if is_null schema.nullstr schema.allow_quoted_nulls quoted value then null else text value
+text_cell schema quoted value = if is_null (null_texts schema) schema.allow_quoted_nulls quoted value then null else text value
 
 -- a plain number stands from a place on, and bytes follow it
 pub record IsNumberAt (bytes : List ℕ) (from : ℕ) (front : FrontNumber) : Type 0 where

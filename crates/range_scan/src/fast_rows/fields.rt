@@ -9,6 +9,7 @@ use super::texts::push_text;
 use crate::context::Context;
 use column_store::Chunk;
 use csv_source::NoMemory;
+use reject_book::is_null;
 use value_types::{Cell, ColumnType};
 
 /// Appends null for a field of no bytes, where an empty text stands for null. That the field ends here the caller sees.
@@ -25,7 +26,7 @@ fn push_empty(
     ensures at { IfOk result (λ found. IfSome found (λ end. (ty : ColumnType) → IsFieldPushed context.now ty bytes.now from chunk.old chunk.new end)) }
     ensures none { IfOk result (λ found. found ≡ None → chunk.new ≡ chunk.old) }
 {
-    if from == bytes.len() || !context.schema.nullstr.as_slice().is_empty() {
+    if from == bytes.len() || !is_null(&context.schema, false, b"") {
         return Ok(None);
     }
     chunk.push_cell(Cell::Null)?;

@@ -1,13 +1,14 @@
 //! As what the rows of a file are tried.
-ghost use Rattle.std.specs.Prelude.{◌≡◌, ◌==◌, false, true, All, IfSome, IsTrue};
+ghost use Rattle.std.specs.Prelude.{◌≡◌, false, true, All, IfSome, IsTrue};
 ghost use Rattle.std.specs.List.{list_any};
 ghost use Rattle.column_store.specs.RowsOfColumns.{HasNoTexts};
 ghost use Rattle.range_scan.specs.declared.context.Context.{Context};
 ghost use Rattle.value_types.specs.declared.types.ColumnType.TheVariants.{Bigint};
-ghost use Rattle.range_scan.specs.FastRows.{HoldsPlain, IsKindOf, begins_plain, is_plain_in};
+ghost use Rattle.reject_book.specs.Casting.{null_texts};
+ghost use Rattle.range_scan.specs.FastRows.{HoldsPlain, IsKindOf, begins_plain, has_byte, is_plain_in};
 
 use crate::context::Context;
-use value_types::{ColumnType, Types, is_plain};
+use value_types::{ColumnType, Names, Types, is_plain};
 
 /// As what a row is tried by one look at its bytes.
 #[derive(Clone, Copy)]
@@ -54,9 +55,21 @@ fn is_plain_front(types: &Types, text: &[u8]) -> bool
     is_plain_in(types, text[0])
 }
 
+/// Whether one of some texts begins with such a byte.
+fn has_plain_front(types: &Types, texts: &Names) -> bool
+    ensures { result ≡ list_any (begins_plain (is_plain_in types.now)) texts.now }
+{
+    for number in 0..texts.len() {
+        if is_plain_front(types, texts.get(number)) {
+            return true;
+        }
+    }
+    false
+}
+
 /// Whether a byte stands in a text.
 fn has_byte(text: &[u8], byte: u8) -> bool
-    ensures { result ≡ list_any (λ b. b == byte) text.now }
+    ensures { result ≡ has_byte byte text.now }
 {
     for place in 0..text.len() {
         if text[place] == byte {
@@ -66,14 +79,16 @@ fn has_byte(text: &[u8], byte: u8) -> bool
     false
 }
 
-/// Whether there is a byte, and it stands in a text.
-fn has_mark(text: &[u8], mark: Option<u8>) -> bool
-    ensures { result ≡ false → IfSome mark (λ m. list_any (λ b. b == m) text.now ≡ false) }
+/// Whether a byte stands in one of some texts.
+fn have_byte(texts: &Names, byte: u8) -> bool
+    ensures { result ≡ list_any (has_byte byte) texts.now }
 {
-    match mark {
-        Some(byte) => has_byte(text, byte),
-        None => false,
+    for number in 0..texts.len() {
+        if has_byte(texts.get(number), byte) {
+            return true;
+        }
     }
+    false
 }
 
 /// Whether all columns are BIGINT.
@@ -101,7 +116,7 @@ fn has_no_texts(types: &Types) -> bool
 }
 
 /// Whether rows are tried at all: there are columns, and no byte of a plain value of theirs is the delimiter, can open quotes
-/// or a comment, or begins the text that stands for null.
+/// or a comment, or begins a text that stands for null.
 fn holds_plain(context: &Context) -> bool
     ensures { result ≡ true → HoldsPlain context.now }
 {
@@ -111,17 +126,24 @@ fn holds_plain(context: &Context) -> bool
         || is_plain_mark(types, dialect.quote())
         || is_plain_mark(types, dialect.comment())
         || is_plain_front(types, context.schema.nullstr.as_slice())
+        || has_plain_front(types, &context.schema.nulls)
     {
         return false;
     }
     types.len() > 0
 }
 
-/// Whether no quote stands in the text that stands for null, so that no text with a quote inside is null.
+/// Whether no quote stands in a text that stands for null, so that no text with a quote inside is null.
 fn holds_quotes(context: &Context) -> bool
-    ensures { result ≡ true → IfSome context.now.dialect.quote (λ q. list_any (λ b. b == q) context.now.schema.nullstr ≡ false) }
+    ensures { result ≡ true → IfSome context.now.dialect.quote (λ q. list_any (has_byte q) (null_texts context.now.schema) ≡ false) }
 {
-    !has_mark(context.schema.nullstr.as_slice(), context.dialect.quote())
+    let schema = &context.schema;
+    match context.dialect.quote() {
+        Some(quote) => {
+            !has_byte(schema.nullstr.as_slice(), quote) && !have_byte(&schema.nulls, quote)
+        }
+        None => true,
+    }
 }
 
 impl FastRows {
