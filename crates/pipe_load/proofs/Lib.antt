@@ -10,3 +10,4 @@ pub mod WindowRanges
 pub mod SlotsLaws
 pub mod AnswerLaws
 pub mod LoadLaws
+pub mod HoldsLaws

@@ -1,15 +1,13 @@
 -- The ranges of a window are joined as ranges of the data.
-use Rattle.std.proofs.Common.{◌≡◌, ℕ, zero, suc, ◌+◌, ◌-◌, ◌*◌, ◌%◌, ◌<◌, ◌≤◌, ◌⊎◌, inl, inr, min, Bool, true, false, cond, List, [], ◌∷◌, length, map, take, drop, refl, sym, ap, ◌∙◌, subst, arith, length-take, length-drop, lt_of_not-le}
-use Rattle.std.specs.Prelude.{None, ◌==◌, slice_range}
+use Rattle.std.proofs.Common.{◌≡◌, ℕ, zero, suc, ◌+◌, ◌-◌, ◌*◌, ◌<◌, ◌≤◌, ◌⊎◌, inl, inr, min, List, [], ◌∷◌, length, map, take, drop, refl, sym, ap, ◌∙◌, subst, arith, length-take, length-drop, lt_of_not-le}
+use Rattle.std.specs.Prelude.{None, slice_range}
 use Rattle.std.specs.List.{range_with_len, last_or}
 use Rattle.std.proofs.Math.Nat.{mul-le-mul_right}
 use Rattle.std.proofs.Math.Seq.{take-add}
-use Rattle.std.proofs.lemmas.Bool.{eqb-true}
 use mathlib.Core.Logic.{dite}
 use native.Mathlib.Decide.{dec_le}
 use Rattle.byte_classes.proofs.LineEndLaws.{last_or-append, last_or-some}
 use Rattle.quote_automaton.specs.declared.state.State.{State}
-use Rattle.quote_automaton.specs.declared.state.State.TheVariants.{RowStart}
 use Rattle.range_guess.specs.Guess.{guess}
 use Rattle.byte_classes.specs.Places.{byte_before}
 use Rattle.range_guess.specs.Rescans.{range_bytes}

@@ -1,50 +1,26 @@
-use Rattle.std.proofs.Common.{◌≡◌, ◌++◌, List, All, length, min, ◌*◌, refl, sym, ap, ◌∙◌, subst, arith, length-append, false}
-use Rattle.crossbeam_queue.specs.Passes.{view}
+use Rattle.std.proofs.Common.{◌≡◌, ◌++◌, List, length, min, ◌*◌, sym, ap, ◌∙◌, subst, arith}
 use Rattle.range_guess.specs.Cut.{range_count}
-use Rattle.pipe_load.specs.declared.stage.Stage.{Stage}
 use Rattle.pipe_load.specs.declared.window.Window.{Window}
 use Rattle.pipe_load.specs.Feeding.{made_of}
 use Rattle.pipe_load.specs.Joining.{AddsRanges, IsJoinedTo, stretch_len}
-use Rattle.pipe_load.specs.Slots.{AreSlots, HasPut}
-use Rattle.pipe_load.proofs.LoadLaws.{one_is, begins_before, next_window, first_window, last_window, number_behind, waiting_is_made}
+use Rattle.pipe_load.specs.Slots.{HasPut}
+use Rattle.pipe_load.proofs.LoadLaws.{one_is, begins_before, next_window, first_window, last_window}
 use Rattle.pipe_load.proofs.order.join_windows.Goals as goal
 
-pub place_stages-requires-clause-few : goal.place_stages-requires-clause-few
-place_stages-requires-clause-few g c =
-    let put : List Window = (view c.args.feed.pass).put in
-    let h : AreSlots c.args.scanner.now.ranges.context.now c.args.scanner.now.layout (made_of c.args.feed) c.in_ok-slots.slots = c.in_ok-slots.ensures _ _ (made_of c.args.feed) c.requires.made in
-    let many = h.many in let made = c.requires.made in
-    omega (arith, many, made, length-append put c.args.feed.waiting.items, c.in_ok-slots.slots.slots.ok.0)
-
-pub place_stages-requires-clause-all : goal.place_stages-requires-clause-all
-place_stages-requires-clause-all g c =
-    let long : All (λ (s : Stage). s.short ≡ false) c.args.stages.items = subst (All (λ (s : Stage). s.short ≡ false)) c.as_slice.ensures.value (c.any_short.ensures c.if-any_short.false) in
-    (c.args.scanner.now.ranges.context.now, c.args.scanner.now.layout, λ k d lt. c.requires.all k d lt (long k d lt))
-
-pub place_waiting-requires : goal.place_waiting-requires
-place_waiting-requires g c k d lt =
-    let put : List Window = (view c.args.feed.pass).put in
-    let number = number_behind put c.args.feed.waiting.items c.requires.numbered k d lt in
-    let h : AreSlots c.args.scanner.now.ranges.context.now c.args.scanner.now.layout (made_of c.args.feed) c.in_ok-slots.slots = c.in_ok-slots.ensures _ _ (made_of c.args.feed) c.requires.made in
-    let many = h.many in let made = c.requires.made in let same = c.place_stages.ensures.same in
-    omega (arith, lt, number, many, made, same, length-append put c.args.feed.waiting.items, c.in_ok-slots.slots.slots.ok.0)
+pub take_in_hand-requires-clause-all : goal.take_in_hand-requires-clause-all
+take_in_hand-requires-clause-all g c = (c.args.scanner.now.ranges.context.now, c.args.scanner.now.layout, c.requires.all)
 
 pub loop-number-init : goal.loop-number-init
 loop-number-init g c =
     let context = c.args.scanner.now.ranges.context.now in
     let l = c.args.scanner.now.layout in
-    let made : List Window = made_of c.args.feed in
-    let put : List Window = (view c.args.feed.pass).put in
-    let h : AreSlots context l made c.in_ok-slots.slots = c.in_ok-slots.ensures context l made c.requires.made in
-    let many = h.many in let count = c.requires.made in let a = c.place_stages.ensures.same in let b = c.place_waiting.ensures.same in
-    let long : All (λ (s : Stage). s.short ≡ false) c.args.stages.items = subst (All (λ (s : Stage). s.short ≡ false)) c.as_slice.ensures.value (c.any_short.ensures c.if-any_short.false) in
-    let staged : AreSlots context l made c.place_stages.new.self =
-    c.place_stages.ensures.slots context l made c.args.feed.waiting.items refl (λ k d lt. c.requires.all k d lt (long k d lt)) h in
+    let hand = c.in_ok-slots.ensures in
     let begun = c.in_ok-counted.ensures in
     record {
-      pass = c.place_stages.ensures.pass;
-      many = omega (arith, many, count, a, b, c.in_ok-slots.slots.slots.ok.0);
-      slots = c.place_waiting.ensures.slots context l made (waiting_is_made put c.args.feed.waiting.items c.requires.numbered) staged;
+      pass = hand.pass;
+      many = hand.same;
+      slots = hand.slots context l c.requires.all;
+      held = hand.held;
       types = begun.0.part.types;
       keep = ap (λ b. b.keep) begun.0.part.book;
       joined = λ text is covered begins. first_window context l c.args.scanner.now.lies text c.in_ok-counted.counted begun.0 begun.1 begun.2;
@@ -63,6 +39,7 @@ loop-number-preserved g c =
       pass = subst (λ (ws : List Window). HasPut c.args.windows.now ws c.fetch-kept.new.pass) put_is c.fetch-kept.ensures.pass;
       many = c.fetch-kept.ensures.same ∙ inv.many;
       slots = got.0;
+      held = c.fetch-kept.ensures.held;
       types = adds.types;
       keep = adds.keep;
       joined = λ text is covered begins.

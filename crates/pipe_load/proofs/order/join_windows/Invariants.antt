@@ -4,7 +4,7 @@ use Rattle.range_guess.specs.Cut.{range_count}
 use Rattle.pipe_load.specs.Feeding.{made_of}
 use Rattle.pipe_load.specs.Joining.{IsJoinedTo}
 use Rattle.pipe_load.specs.Layout.{stride, windows_of}
-use Rattle.pipe_load.specs.Slots.{AreSlots, HasPut}
+use Rattle.pipe_load.specs.Slots.{AreSlots, HasPut, IsAllHeld}
 use Rattle.pipe_load.proofs.order.join_windows.Given as goal
 
 abbrev pub invariant-loop-number : goal.invariant-loop-number
@@ -12,6 +12,7 @@ invariant-loop-number g l = record {
   pass : HasPut l.windows (view l.fn.feed.pass).put l.pass;
   many : vec_len l.slots.slots ≡ l.count;
   slots : AreSlots l.scanner.ranges.context.now l.scanner.layout (made_of l.fn.feed) l.slots;
+  held : IsAllHeld l.number l.slots (view l.pass);
   types : l.counted.joined.table.types ≡ l.scanner.ranges.context.now.schema.types;
   keep : l.counted.joined.book.keep ≡ l.scanner.ranges.context.now.keep;
   joined : (text : List ℕ) → made_of l.fn.feed ≡ windows_of l.scanner.layout text l.count → length text ≤ l.count * stride l.scanner.layout → (0 < l.count → (l.count - 1) * stride l.scanner.layout < length text) →

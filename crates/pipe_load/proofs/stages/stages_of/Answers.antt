@@ -1,4 +1,5 @@
-use Rattle.std.proofs.Common.{ap, ◌∙◌, arith}
+use Rattle.std.proofs.Common.{◌≡◌, false, refl, ap, ◌∙◌, arith}
+use Rattle.pipe_load.specs.declared.stage.Stage.{Stage}
 use Rattle.pipe_load.specs.Scanning.{IsStage, HasScanned}
 use Rattle.pipe_load.proofs.ScanningLaws.{all_more, fresh_stage}
 use Rattle.pipe_load.proofs.stages.stages_of.Goals as goal
@@ -18,5 +19,6 @@ loop-worker-preserved c =
       same = value.0 ∙ inv.same;
       stages = all_more (IsStage c.args.windows.now) _ _ _ items inv.stages record { of = pass.1; other = ap (λ v. v.is_caller) value.1 };
       all = λ context l. all_more (HasScanned context l) _ _ _ items (inv.all context l) (fresh_stage context l _ c.new.ensures.items value.1);
+      short = all_more (λ (s : Stage). s.short ≡ false) _ _ _ items inv.short refl;
       count = let len = c.in_ok-push.ensures.len in let before = inv.count in omega (arith, len, before);
     }

@@ -1,8 +1,10 @@
 use Rattle.std.proofs.Common.{List, All, sym, subst, map, ◌++◌, arith}
+use Rattle.std.proofs.lemmas.List.Elements.{All-map}
 use Rattle.crossbeam_queue.specs.Passes.{view}
 use Rattle.pipe_load.specs.declared.scanner.Kept.{Kept}
 use Rattle.pipe_load.specs.declared.window.Window.{Window}
 use Rattle.pipe_load.specs.PassViews.{IsOneOf, IsSettled}
+use Rattle.pipe_load.specs.Slots.{Holds, HoldsAll}
 use Rattle.pipe_load.proofs.SlotsLaws.{all_behind, all_of_map, at_within, put_is_made}
 use Rattle.pipe_load.proofs.slots.Slots.place_stage.Goals as goal
 
@@ -24,3 +26,8 @@ returns-clause-slots c = λ context l made more is scanned before.
     let windows : All (IsOneOf put) (map (λ (k : Kept). k.window) c.args.stage.kept.items) = subst (All (IsOneOf put)) (sym scanned.all) took in
     c.place_all.ensures.slots context l made
     (λ k d lt. record { one = put_is_made put made more _ is (all_of_map (IsOneOf put) (λ (k : Kept). k.window) c.args.stage.kept.items windows k d lt); parts = scanned.parts k d lt }) before
+
+pub returns-clause-all : goal.returns-clause-all
+returns-clause-all c =
+    subst (HoldsAll c.place_all.new.self) c.requires.all.2.all
+    (All-map (λ (w : Window). Holds c.place_all.new.self w.number) (λ (k : Kept). k.window) c.args.stage.kept.items c.place_all.ensures.all)

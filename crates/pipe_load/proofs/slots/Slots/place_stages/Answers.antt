@@ -1,7 +1,11 @@
-use Rattle.std.proofs.Common.{List, [], ◌∷◌, ◌++◌, All, ◌∙◌, sym, ap, subst}
+use Rattle.std.proofs.Common.{List, [], ◌∷◌, ◌++◌, All, ◌∙◌, sym, ap, subst, arith}
+use Rattle.std.proofs.lemmas.List.Elements.{All-append}
+use Rattle.crossbeam_queue.specs.Passes.{view}
+use Rattle.pipe_load.specs.declared.stage.Stage.{Stage}
 use Rattle.pipe_load.specs.declared.window.Window.{Window}
 use Rattle.pipe_load.specs.Scanning.{IsStage, HasScanned}
-use Rattle.pipe_load.specs.Slots.{HasPut}
+use Rattle.pipe_load.specs.Slots.{HasPut, Holds, HoldsAll}
+use Rattle.pipe_load.proofs.HoldsLaws.{done_last, none_left, all_stay}
 use Rattle.pipe_load.proofs.SlotsLaws.{all_but_last, of_last}
 use Rattle.pipe_load.proofs.slots.Slots.place_stages.Goals as goal
 
@@ -24,7 +28,19 @@ loop-stage-preserved c =
             all_but_last (HasScanned context plan) rest one t,
             c.place_stage.ensures.slots context plan made more (is ∙ ap (λ (ws : List Window). ws ++ more) (sym inv.pass.put_is)) (of_last (HasScanned context plan) rest one t) h.1,
           );
+      done = done_last (λ (s : Stage). HoldsAll c.place_stage.new.self (view s.pass).taken) _ _ rest inv.done.0 one inv.done.1 items
+          c.place_stage.ensures.all (λ k d lt. all_stay c.loop-stage.self c.place_stage.new.self _ c.place_stage.ensures.stays (inv.done.2 k d lt));
+      taken = λ first.
+          subst (HoldsAll c.place_stage.new.self) (sym (ap (λ v. v.taken) c.place_stage.ensures.joined))
+          (All-append (λ (w : Window). Holds c.place_stage.new.self w.number) _ _ (all_stay c.loop-stage.self c.place_stage.new.self _ c.place_stage.ensures.stays (inv.taken first)) c.place_stage.ensures.all);
+      stays = λ k was. c.place_stage.ensures.stays k (inv.stays k was);
     }
 
 pub returns-clause-slots : goal.returns-clause-slots
 returns-clause-slots c = λ context plan made more is all before. (c.loop-stage.invariant.slots context plan made more is all before).1
+
+pub returns-clause-all : goal.returns-clause-all
+returns-clause-all c =
+    let inv = c.loop-stage.invariant in
+    none_left (λ (s : Stage). HoldsAll c.loop-stage.self (view s.pass).taken) c.args.stages.items c.loop-stage.stages.items inv.done.0 inv.done.1
+    (let none = c.in_default.ensures.cases.0 in omega (arith, none, c.loop-stage.stages.ok.0)) inv.done.2
