@@ -11,6 +11,7 @@ ghost use Rattle.csv_sniffer.specs.KeptTypes.{is_settled, is_value_byte, keeps};
 ghost use Rattle.csv_sniffer.specs.PossibleTypes.{column_value, narrowed_by};
 
 use crate::possible_types::PossibleTypes;
+use crate::sampled_rows::SampledRows;
 use byte_classes::Dialect;
 use quote_automaton::begins_comment;
 use value_types::{ColumnType, is_plain};
@@ -33,7 +34,7 @@ fn is_value_mark(mark: Option<u8>) -> bool
 }
 
 /// Whether the dialect gives no meaning to the bytes of plain values.
-fn leaves_values(dialect: &Dialect) -> bool
+pub fn leaves_values(dialect: &Dialect) -> bool
     ensures { result ≡ true → LeavesPlain is_value_byte dialect.now }
 {
     !is_value_byte(dialect.delim())
@@ -65,24 +66,20 @@ fn is_line_end(byte: u8) -> bool
 /// Whether the row that begins at a place leaves the types of all columns as they are, whether it agrees or not, as one look
 /// at its bytes shows. It looks at no column behind the last one that isn't settled.
 #[inline(never)]
-pub fn keeps_types(
-    possible: &[PossibleTypes],
-    dialect: &Dialect,
-    sample: &[u8],
-    start: usize,
-) -> bool
-    requires { start ≤ length sample.now }
+pub fn keeps_types(possible: &[PossibleTypes], rows: &SampledRows, start: usize) -> bool
+    requires { start ≤ length rows.now.sample.now }
     ensures { result ≡ true → (o : Options) (column : ℕ) (other : PossibleTypes) → column < length possible.now →
         slice_index_or possible.now column other
-        ≡ narrowed_by (column_value o (fields dialect.now (row_from dialect.now sample.now start)) column) (slice_index_or possible.now column other) }
+        ≡ narrowed_by (column_value o (fields rows.now.dialect (row_from rows.now.dialect rows.now.sample.now start)) column) (slice_index_or possible.now column other) }
 {
-    if !leaves_values(dialect) {
+    if !rows.leaves_values {
         return false;
     }
-    if begins_comment(dialect, &sample[start..]) {
+    let sample = rows.sample;
+    if begins_comment(&rows.dialect, &sample[start..]) {
         return false;
     }
-    let delim = dialect.delim();
+    let delim = rows.dialect.delim();
     let count = unsettled(possible);
     let mut from = start;
     for column in 0..count {

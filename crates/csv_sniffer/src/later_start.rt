@@ -4,6 +4,7 @@ ghost use Rattle.csv_sniffer.specs.LaterStart.{start_under};
 
 use crate::Sniffed;
 use crate::first_row::{data_start, has_whole_row};
+use crate::kept_rows::leaves_values;
 use crate::sampled_rows::SampledRows;
 use csv_source::NoMemory;
 use dialect_rank::sample_rows;
@@ -25,10 +26,12 @@ pub fn start_under(
 {
     let dialect = found.dialect;
     let spans = sample_rows(alloc, &dialect, sample, whole, options.sample_size)?;
+    let leaves_values = leaves_values(&dialect);
     let rows = SampledRows {
         dialect,
         sample,
         spans,
+        leaves_values,
     };
     let header = has_whole_row(&rows, whole) && found.header;
     Ok(data_start(&rows, header))

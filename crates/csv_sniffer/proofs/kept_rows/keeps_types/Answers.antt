@@ -16,8 +16,8 @@ none = record { some_value = false; boolean = false; bigint = false; date = fals
 
 pub loop-column-init : goal.loop-column-init
 loop-column-init c =
-    let d = c.args.dialect.now in
-    let sample : List ℕ = c.args.sample.now in
+    let d = c.args.rows.now.dialect in
+    let sample : List ℕ = c.args.rows.now.sample.now in
     let start : ℕ = c.args.start in
     let whole : take (length sample - start) (drop start sample) ≡ drop start sample = take_all (length sample - start) (drop start sample) (omega (arith, length-drop start sample)) in
     let none_begins = ap (begins_comment d) (sym whole) ∙ sym c.begins_comment.ensures ∙ c.if-begins_comment.false in record {
@@ -28,15 +28,15 @@ loop-column-init c =
 
 pub loop-column-preserved : goal.loop-column-preserved
 loop-column-preserved c =
-    let d = c.args.dialect.now in
-    let sample : List ℕ = c.args.sample.now in
+    let d = c.args.rows.now.dialect in
+    let sample : List ℕ = c.args.rows.now.sample.now in
     let possible : List PossibleTypes = c.args.possible.now in
     let fs : List Field = fields d (row_from d sample c.args.start) in
     let column : ℕ = c.loop-column.column in
     let from : ℕ = c.loop-column.from in
     let end : ℕ = c.in-Some.end in
     let found = c.in-Some.ensures in
-    let holds = c.leaves_values.ensures c.if-not-leaves_values.false in
+    let holds = c.args.rows.now.leaves c.if-not-rows.false in
     let delim : get_or sample end 0 ≡ d.delim = c.if-sample-end.false ∙ c.delim-delim.ensures in
     let within : column < length possible = omega (arith, c.loop-column-test.true, c.unsettled-count.ensures.within) in record {
       within = omega (arith, found.within.1);
@@ -48,15 +48,15 @@ loop-column-preserved c =
 
 pub returns-then-column-count : goal.returns-then-column-count
 returns-then-column-count c ends =
-    let d = c.args.dialect.now in
-    let sample : List ℕ = c.args.sample.now in
+    let d = c.args.rows.now.dialect in
+    let sample : List ℕ = c.args.rows.now.sample.now in
     let possible : List PossibleTypes = c.args.possible.now in
     let fs : List Field = fields d (row_from d sample c.args.start) in
     let column : ℕ = c.loop-column.column in
     let from : ℕ = c.loop-column.from in
     let end : ℕ = c.in-Some.end in
     let found = c.in-Some.ensures in
-    let holds = c.leaves_values.ensures c.if-not-leaves_values.false in
+    let holds = c.args.rows.now.leaves c.if-not-rows.false in
     let line_end : is_line_end_byte (get_or sample end 0) ≡ true = sym c.is_line_end.ensures ∙ ends in
     let within : column < length possible = omega (arith, c.loop-column-test.true, c.unsettled-count.ensures.within) in
     kept_with_settled fs possible (column + 1) c.unsettled-count.result (omega (arith, c.if-column-count.true)) c.unsettled-count.ensures.settled
@@ -66,6 +66,6 @@ returns-then-column-count c ends =
 
 pub returns : goal.returns
 returns c met =
-    let d = c.args.dialect.now in
-    kept_with_settled (fields d (row_from d c.args.sample.now c.args.start)) c.args.possible.now c.loop-column.column c.unsettled-count.result (omega (arith, c.loop-column-test.false))
+    let d = c.args.rows.now.dialect in
+    kept_with_settled (fields d (row_from d c.args.rows.now.sample.now c.args.start)) c.args.possible.now c.loop-column.column c.unsettled-count.result (omega (arith, c.loop-column-test.false))
     c.unsettled-count.ensures.settled c.loop-column.invariant.kept

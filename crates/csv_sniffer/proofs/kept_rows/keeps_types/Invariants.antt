@@ -10,8 +10,8 @@ use Rattle.csv_sniffer.proofs.kept_rows.keeps_types.Given as goal
 -- the columns so far are kept, and the rest of the row begins here
 abbrev pub invariant-loop-column : goal.invariant-loop-column
 invariant-loop-column l = record {
-  within : l.from ≤ length l.sample;
-  rest : HasRest l.dialect l.sample (fields l.dialect (row_from l.dialect l.sample l.start)) l.column l.from;
+  within : l.from ≤ length l.rows.sample.now;
+  rest : HasRest l.rows.dialect l.rows.sample.now (fields l.rows.dialect (row_from l.rows.dialect l.rows.sample.now l.start)) l.column l.from;
   kept : (o : Options) (k : ℕ) (other : PossibleTypes) → k < l.column →
-      get_or l.possible k other ≡ narrowed_by (column_value o (fields l.dialect (row_from l.dialect l.sample l.start)) k) (get_or l.possible k other);
+      get_or l.possible k other ≡ narrowed_by (column_value o (fields l.rows.dialect (row_from l.rows.dialect l.rows.sample.now l.start)) k) (get_or l.possible k other);
 }

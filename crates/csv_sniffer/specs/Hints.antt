@@ -1,0 +1,92 @@
+-- Words that may be worth a try (this loader's profile).
+use Rattle.std.specs.Prelude.{ℕ, ◌==◌, ◌&&◌, ◌||◌, not, Bool, true, false, if◌then◌else◌, List, [], ◌∷◌, ◌++◌, map, filter, flat_map, codes, Option, Some, None}
+use Rattle.std.specs.List.{list_any}
+use Rattle.std.specs.Option.{is_none}
+use Rattle.std.specs.Char.{is_ascii_digit}
+use Rattle.std.specs.Str.{byte, bytes_eq}
+use Rattle.byte_classes.specs.Dialect.{Marks}
+use Rattle.byte_classes.specs.Fault.{has_byte}
+use Rattle.value_types.specs.declared.types.ColumnType.{ColumnType}
+use Rattle.value_types.specs.declared.types.ColumnType.TheVariants as types
+use Rattle.value_types.specs.OfType.{same_type}
+use Rattle.load_options.specs.declared.options.Options.{Options}
+use Rattle.load_options.specs.Texts.{is_empty}
+use Rattle.csv_sniffer.specs.ColumnTypes.{type_of_values}
+use Rattle.csv_sniffer.specs.Header.{is_varchar}
+use Rattle.csv_sniffer.specs.declared.explaining.entries.ColumnSample.{ColumnSample}
+use Rattle.csv_sniffer.specs.declared.explaining.entries.Entry.{Entry}
+use Rattle.csv_sniffer.specs.declared.explaining.hints.Hint.{Hint}
+use Rattle.csv_sniffer.specs.declared.explaining.hints.Hint.TheVariants as hints
+use Rattle.csv_sniffer.specs.declared.found.Sniffed.{Sniffed}
+
+-- ---- comment lines
+
+-- whether some bytes begin with a byte
+abbrev pub begins_with : ℕ → List ℕ → Bool
+begins_with wanted [] = false
+begins_with wanted (b ∷ bytes) = b == wanted
+
+-- a row begins with `#`, which is no byte of the dialect, and no comment byte is given
+abbrev pub has_comment : Options → Marks → List (List ℕ) → Bool
+has_comment o d rows = is_none o.comment && not (has_byte d (byte "#")) && list_any (begins_with (byte "#")) rows
+
+-- ---- leading zeros
+
+-- whether a text begins with a zero and one more digit
+abbrev pub has_leading_zero : List ℕ → Bool
+has_leading_zero [] = false
+has_leading_zero (a ∷ []) = false
+has_leading_zero (a ∷ b ∷ text) = (a == byte "0") && is_ascii_digit b
+
+-- a column of numbers of which one has a leading zero, and whose name can stand in a list
+abbrev pub loses_zeros : ColumnSample → Bool
+loses_zeros column =
+    column.found && same_type column.ty types.Bigint && not (list_any (λ b. b == byte ",") column.name)
+    && list_any (λ (e : Entry). has_leading_zero e.value) column.entries
+
+-- ---- texts that stand for null
+
+-- the texts that are tried
+abbrev pub null_texts : List (List ℕ)
+null_texts =
+    codes "NA" ∷ codes "N/A" ∷ codes "NULL" ∷ codes "null" ∷ codes "-" ∷ codes "\\N" ∷ codes "None" ∷ codes "NaN" ∷ []
+
+-- whether a value would be null, were this text one that stands for null
+abbrev pub is_such_null : Options → List ℕ → Entry → Bool
+is_such_null o text e = bytes_eq e.value text && (not e.quoted || o.allow_quoted_nulls)
+
+-- the type that a column's values would have
+abbrev pub type_beside : Options → List ℕ → List Entry → ColumnType
+type_beside o text entries = type_of_values (map (λ (e : Entry). e.value) (filter (λ e. not (is_such_null o text e)) entries))
+
+-- a column of texts that would be of another type
+abbrev pub is_freed : Options → List ℕ → ColumnSample → Bool
+is_freed o text column = column.found && is_varchar column.ty && not (is_varchar (type_beside o text column.entries))
+
+-- ---- all of them
+
+abbrev pub delim_hints : Option ℕ → List Hint
+delim_hints None = []
+delim_hints (Some delim) = hints.Delim delim ∷ []
+
+abbrev pub comment_hints : Bool → List Hint
+comment_hints false = []
+comment_hints true = hints.Comment ∷ []
+
+abbrev pub zero_hint : ColumnSample → List Hint
+zero_hint column = if loses_zeros column then hints.Varchar column.name ∷ [] else []
+
+-- whether no text that stands for null is given but the empty one
+abbrev pub may_name_nulls : Options → Bool
+may_name_nulls o = is_empty o.nullstr && is_empty o.nulls
+
+abbrev pub null_hint : Options → List ColumnSample → List ℕ → List Hint
+null_hint o columns text = if list_any (is_freed o text) columns then hints.NullText text ∷ [] else []
+
+abbrev pub null_hints : Options → List ColumnSample → List Hint
+null_hints o columns = if may_name_nulls o then flat_map (null_hint o columns) null_texts else []
+
+-- the delimiter that would cut more, the comment byte, and what would change the types of columns
+abbrev pub hints_of : Options → Sniffed → Marks → List (List ℕ) → List ColumnSample → List Hint
+hints_of o s d rows columns =
+    delim_hints s.other_delim ++ comment_hints (has_comment o d rows) ++ flat_map zero_hint columns ++ null_hints o columns
