@@ -1,9 +1,10 @@
 // The lines of requests that weren't done.
 ghost use Rattle.std.specs.Prelude.{◌≡◌, ◌++◌, OnOk};
-ghost use Rattle.report_text.specs.Lines.{mismatch_line, read_fault_line, refused_line, rule_name, too_large_line, too_many_columns_line};
+ghost use Rattle.report_text.specs.Lines.{mismatch_line, no_column_line, read_fault_line, refused_line, rule_name, too_large_line, too_many_columns_line, too_many_faults_line};
 
 use crate::Mismatch;
 use crate::lines::{Part, push_line, push_number, push_plain};
+use crate::shown::push_shown;
 use csv_source::NoMemory;
 use load_options::{WordFault, WordRule};
 
@@ -66,11 +67,30 @@ fn push_too_many_columns(into: &mut Vec<u8>, limit: u64) -> Result<(), NoMemory>
     push_plain(into, b" columns\n")
 }
 
+/// Appends the line of a file without a column of that name.
+fn push_no_column(into: &mut Vec<u8>, name: &[u8]) -> Result<(), NoMemory>
+    ensures { OnOk result (into.new.items ≡ into.old.items ++ no_column_line name.now) }
+{
+    push_plain(into, b"fault|no column ")?;
+    push_shown(into, name)?;
+    push_plain(into, b"\n")
+}
+
 /// Appends the line of words that don't fit the file.
-pub(crate) fn push_mismatch(into: &mut Vec<u8>, mismatch: Mismatch) -> Result<(), NoMemory>
-    ensures { OnOk result (into.new.items ≡ into.old.items ++ mismatch_line mismatch) }
+pub(crate) fn push_mismatch(into: &mut Vec<u8>, mismatch: &Mismatch) -> Result<(), NoMemory>
+    ensures { OnOk result (into.new.items ≡ into.old.items ++ mismatch_line mismatch.now) }
 {
     match mismatch {
-        Mismatch::TooManyColumns(limit) => push_too_many_columns(into, limit),
+        Mismatch::NoColumn(name, _names) => push_no_column(into, name.as_slice()),
+        Mismatch::TooManyColumns(limit) => push_too_many_columns(into, *limit),
     }
+}
+
+/// Appends the line of a file that has more faults than a bound.
+pub(crate) fn push_too_many_faults(into: &mut Vec<u8>, bound: u64) -> Result<(), NoMemory>
+    ensures { OnOk result (into.new.items ≡ into.old.items ++ too_many_faults_line bound) }
+{
+    push_plain(into, b"fault|over ")?;
+    push_number(into, bound)?;
+    push_plain(into, b" faults\n")
 }

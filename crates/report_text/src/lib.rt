@@ -7,6 +7,7 @@
 #![tactic(auto)]
 
 mod batch;
+mod explained;
 mod faults;
 mod found;
 mod groups;

@@ -1,18 +1,22 @@
 // The texts of reports.
 ghost use Rattle.std.specs.Prelude.{◌≡◌, ◌++◌, [], false, flat_map, length, IfOk, OnOk};
+ghost use Rattle.report_text.specs.ExplainedLines.{explanation_lines};
 ghost use Rattle.report_text.specs.Lines.{error_line, row_line};
 ghost use Rattle.report_text.specs.Report.{closing_lines, found_lines, has_rows, loaded_lines, report_of};
 ghost use Rattle.report_text.specs.Printable.{IsPrintable, IsPrintableLoad};
 
 use crate::batch::push_batch;
-use crate::faults::{push_mismatch, push_read_fault, push_refused, push_too_large};
+use crate::explained::push_explanation;
+use crate::faults::{
+    push_mismatch, push_read_fault, push_refused, push_too_large, push_too_many_faults,
+};
 use crate::found::push_found;
 use crate::lines::{push_errors, push_row_count, push_stats_of};
 use crate::rejects::{push_reject, push_rejects, stored_count};
 use crate::table::push_table;
 use crate::workers::Workers;
 use crate::{Loaded, Outcome};
-use csv_sniffer::Sniffed;
+use csv_sniffer::{Explanation, Sniffed};
 use csv_source::NoMemory;
 use reject_book::Reject;
 use std::alloc::Global;
@@ -66,8 +70,22 @@ fn push_first_error(into: &mut Vec<u8>, sniffed: &Sniffed, reject: &Reject) -> R
     push_reject(into, reject)
 }
 
+/// Appends what was found, and why.
+fn push_explained(
+    into: &mut Vec<u8>,
+    alloc: Global,
+    sniffed: &Sniffed,
+    explanation: &Explanation,
+) -> Result<(), NoMemory>
+    requires { length sniffed.now.names ≡ length sniffed.now.types }
+    ensures { OnOk result (into.new.items ≡ into.old.items ++ (found_lines sniffed.now ++ explanation_lines sniffed.now explanation.now)) }
+{
+    push_found(into, sniffed)?;
+    push_explanation(into, alloc, sniffed, explanation)
+}
+
 /// Appends the text of a report that has no rows.
-fn push_short(into: &mut Vec<u8>, outcome: &Outcome) -> Result<(), NoMemory>
+fn push_short(into: &mut Vec<u8>, alloc: Global, outcome: &Outcome) -> Result<(), NoMemory>
     requires printable { IsPrintable outcome.now }
     requires short { has_rows outcome.now ≡ false }
     ensures { OnOk result (into.new.items ≡ into.old.items ++ report_of outcome.now) }
@@ -76,8 +94,12 @@ fn push_short(into: &mut Vec<u8>, outcome: &Outcome) -> Result<(), NoMemory>
         Outcome::Refused(fault, word) => push_refused(into, fault, word.as_slice()),
         Outcome::ReadFault => push_read_fault(into),
         Outcome::TooLarge(limit) => push_too_large(into, *limit),
-        Outcome::Mismatch(mismatch) => push_mismatch(into, *mismatch),
+        Outcome::Mismatch(mismatch) => push_mismatch(into, mismatch),
+        Outcome::TooManyFaults(bound) => push_too_many_faults(into, *bound),
         Outcome::Sniffed(sniffed) => push_found(into, sniffed),
+        Outcome::Explained(sniffed, explanation) => {
+            push_explained(into, alloc, sniffed, explanation)
+        }
         Outcome::Summary(loaded, taps) => push_summary(into, loaded, taps.as_slice()),
         Outcome::FirstError(sniffed, reject) => push_first_error(into, sniffed, reject),
         Outcome::Loaded(_) | Outcome::Batch(..) => unreachable!(),
@@ -103,7 +125,7 @@ pub fn render<R: Threads + Sync>(
         }
         _ => {
             let mut short = Vec::new(alloc);
-            push_short(&mut short, outcome)?;
+            push_short(&mut short, alloc, outcome)?;
             text.push(short)?;
         }
     }
