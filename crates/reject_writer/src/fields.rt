@@ -1,0 +1,37 @@
+// The fields of a line.
+ghost use Rattle.std.specs.Prelude.{◌≡◌, ◌++◌, map, OnOk};
+ghost use Rattle.csv_writer.specs.WrittenTable.{line_of_fields};
+ghost use Rattle.reject_writer.specs.WrittenField.{written_field};
+
+use csv_source::NoMemory;
+use csv_writer::{push_comma, push_text};
+
+/// A field of a line, as it stands on the caller's stack.
+#[derive(Clone, Copy)]
+pub(crate) enum Field<'a> {
+    Text(&'a [u8]),
+    Number(u64),
+}
+
+/// Appends a field.
+fn push_field(into: &mut Vec<u8>, field: Field<'_>) -> Result<(), NoMemory>
+    ensures { OnOk result (into.new.items ≡ into.old.items ++ written_field field.entry) }
+{
+    match field {
+        Field::Text(text) => push_text(into, text),
+        Field::Number(number) => push_text(into, itoa::Buffer::new().format(number).as_bytes()),
+    }
+}
+
+/// Appends a line of fields. A line takes no memory of its own.
+pub(crate) fn push_line(into: &mut Vec<u8>, fields: &[Field<'_>]) -> Result<(), NoMemory>
+    ensures { OnOk result (into.new.items ≡ into.old.items ++ line_of_fields (map written_field fields.now)) }
+{
+    for column in 0..fields.len() {
+        let field = fields[column];
+        push_comma(into, column)?;
+        push_field(into, field)?;
+    }
+    into.push(b'\n')?;
+    Ok(())
+}

@@ -1,0 +1,7 @@
+//! A law over the definitions.
+ghost use Rattle.reject_writer.specs.Laws.{NumbersAreBare};
+
+/// No number stands between quotes.
+pub fn numbers_are_bare()
+    ensures { NumbersAreBare }
+{}
