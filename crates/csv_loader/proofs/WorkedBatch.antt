@@ -1,5 +1,5 @@
 -- Worked runs over several files: the words, the files and what is answered.
-use Rattle.std.specs.Prelude.{◌≡◌, ◌++◌, [], ◌∷◌, codes, Some, IsSomeAnd, refl}
+use Rattle.std.specs.Prelude.{◌≡◌, ◌++◌, [], ◌∷◌, codes, None, Some, IsSomeAnd, refl}
 use Rattle.std.specs.Str.{is_utf8, chars}
 use Rattle.std.specs.Str.Lossy.{utf8_valid_len}
 use Rattle.std.specs.Fmt.{digits}
@@ -12,7 +12,7 @@ use Rattle.csv_loader.proofs.Worked.{rejected}
 
 stored : reply_of (codes "batch" ∷ codes "a.csv,b.csv" ∷ codes "store_rejects=true" ∷ [])
     (Some ((codes "a.csv", codes "id,v\n1,a\n") ∷ (codes "b.csv", codes "id,v\nx,b\n2,c\n") ∷ [])) []
-    ≡ Some (reply (endings.Answered 1)
+    ≡ Some (reply (endings.Answered 1 None)
     (codes "options|delim=,|quote=\"|escape=\"|newline=\\n|skip=0|header=true\n"
     ++ codes "column|0|BIGINT|id\n"
     ++ codes "column|1|VARCHAR|v\n"
@@ -64,7 +64,7 @@ too_large_first = refl
 -- the same file twice, with its numbers added
 twice : reply_of (codes "batch" ∷ codes "b.csv,b.csv" ∷ codes "ignore_errors=true" ∷ codes "stats=true" ∷ [])
     (Some ((codes "b.csv", codes "id,v\nx,b\n2,c\n") ∷ [])) []
-    ≡ Some (reply (endings.Answered 0)
+    ≡ Some (reply (endings.Answered 0 None)
     (codes "options|delim=,|quote=\"|escape=\"|newline=\\n|skip=0|header=true\n"
     ++ codes "column|0|VARCHAR|id\n"
     ++ codes "column|1|VARCHAR|v\n"

@@ -49,6 +49,6 @@ impl<'a, R: Threads + Sync, G> Loader<'a, R, G> {
             stored_files(options.store_rejects, batch.files()),
             options.threads,
         )?;
-        Ok(Reply::new(Ending::Answered(all_in(batch)?), text))
+        Ok(Reply::new(Ending::Answered(all_in(batch)?, sniffed.other_delim), text))
     }
 }

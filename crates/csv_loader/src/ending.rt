@@ -13,8 +13,9 @@ use report_text::{Mismatch, Outcome};
 #[derive(Drop)]
 pub enum Ending {
     /// The whole report, written table, database or made text was written. So many faults of rows were passed over, stored or not: 0
-    /// for `sniff` and `make`.
-    Answered(u64),
+    /// for `sniff` and `make`. Where one column was found there may be another delimiter under which rows would mostly have
+    /// several fields.
+    Answered(u64, Option<u8>),
     /// The words were refused.
     Refused(WordFault),
     /// The file that was opened last could not be opened or read.
@@ -30,6 +31,8 @@ pub enum Ending {
     NoMemory,
     /// The file that was opened last is over this limit, in bytes.
     TooLarge(u64),
+    /// The file, or all files of `batch` together, have more faults of rows than this bound.
+    TooManyFaults(u64),
 }
 
 impl Ending {
@@ -43,11 +46,19 @@ impl Ending {
             Outcome::ReadFault => Ok(Ending::ReadFault),
             Outcome::TooLarge(limit) => Ok(Ending::TooLarge(limit)),
             Outcome::Mismatch(mismatch) => Ok(Ending::Mismatch(mismatch)),
+            Outcome::TooManyFaults(bound) => Ok(Ending::TooManyFaults(bound)),
             Outcome::FirstError(sniffed, reject) => Ok(Ending::FirstError(sniffed, reject)),
-            Outcome::Sniffed(_sniffed) => Ok(Ending::Answered(faults)),
-            Outcome::Loaded(_loaded) => Ok(Ending::Answered(faults)),
-            Outcome::Summary(_loaded, _lines) => Ok(Ending::Answered(faults)),
-            Outcome::Batch(_sniffed, _batch, _store, _stats) => Ok(Ending::Answered(faults)),
+            Outcome::Sniffed(sniffed) => Ok(Ending::Answered(faults, sniffed.other_delim)),
+            Outcome::Explained(sniffed, _explanation) => {
+                Ok(Ending::Answered(faults, sniffed.other_delim))
+            }
+            Outcome::Loaded(loaded) => Ok(Ending::Answered(faults, loaded.sniffed.other_delim)),
+            Outcome::Summary(loaded, _lines) => {
+                Ok(Ending::Answered(faults, loaded.sniffed.other_delim))
+            }
+            Outcome::Batch(sniffed, _batch, _store, _stats) => {
+                Ok(Ending::Answered(faults, sniffed.other_delim))
+            }
         }
     }
 
@@ -56,7 +67,7 @@ impl Ending {
         ensures { result ≡ ending_status self.now }
     {
         match self {
-            Ending::Answered(_) => Status::Answered,
+            Ending::Answered(..) => Status::Answered,
             Ending::Refused(_) => Status::Refused,
             Ending::ReadFault => Status::ReadFault,
             Ending::FirstError(..) => Status::FirstError,
@@ -64,6 +75,7 @@ impl Ending {
             Ending::WriteFault => Status::WriteFault,
             Ending::NoMemory => Status::NoMemory,
             Ending::TooLarge(_) => Status::TooLarge,
+            Ending::TooManyFaults(_) => Status::TooManyFaults,
         }
     }
 

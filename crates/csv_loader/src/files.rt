@@ -12,12 +12,17 @@ ghost use Rattle.csv_sniffer.specs.Input.{found};
 ghost use Rattle.csv_loader.specs.Batch.{IsOpened, IsReadWhole, IsReadOver};
 ghost use Rattle.csv_loader.specs.Loading.{IsHead, GoesBehindSample, IsFileLoad};
 ghost use Rattle.csv_loader.specs.Reading.{schema_of};
+ghost use Rattle.csv_loader.specs.Reply.{sniffed_outcome};
+ghost use Rattle.report_text.specs.Printable.{IsPrintable};
 
 use crate::loader::Loader;
 use crate::loading::FileLoad;
 use crate::sniffed_head::SniffedHead;
-use csv_sniffer::{Finding, SAMPLE_LIMIT, Sniffed, place_under, sample_start, sniff_input};
-use csv_source::{Gate, Source};
+use csv_sniffer::{
+    Finding, SAMPLE_LIMIT, Sniffed, explain, place_under, sample_start, sniff_input,
+};
+use csv_source::{Gate, NoMemory, Source};
+use report_text::Outcome;
 use std::alloc::Global;
 use std::sync::Wait;
 use std::thread::Threads;
@@ -77,21 +82,39 @@ impl<'a, R, G> Loader<'a, R, G> {
         read_head(self.alloc, source, options.skip, options.max_input)
     }
 
-    /// What is found in a file. What stands behind its head is read and dropped.
-    pub fn sniff_file<S: Source>(&self, name: &str, source: &mut S) -> Result<Sniffed, LoadStop>
+    /// What `sniff` tells of an input.
+    fn sniffed_outcome(&self, input: &[u8]) -> Result<Outcome, NoMemory>
+        requires accepted { IsAccepted self.now.options.now }
+        ensures ok { IfOk result (λ outcome. outcome ≡ sniffed_outcome self.now.options.now input.now) }
+        ensures printable { IfOk result IsPrintable }
+    {
+        let finding = sniff_input(self.alloc, self.options, input)?;
+        let sniffed = finding.sniffed;
+        if let Some(outcome) = self.no_column(&sniffed)? {
+            return Ok(outcome);
+        }
+        if !self.options.explain {
+            return Ok(Outcome::Sniffed(sniffed));
+        }
+        let explanation = explain(self.alloc, self.options, input, &sniffed)?;
+        Ok(Outcome::Explained(sniffed, explanation))
+    }
+
+    /// What `sniff` tells of a file. What stands behind its head is read and dropped.
+    pub fn sniff_file<S: Source>(&self, name: &str, source: &mut S) -> Result<Outcome, LoadStop>
         requires accepted { IsAccepted self.now.options.now }
         ensures ok { let o = self.now.options.now in
-            IfOk result (λ sniffed. IsReadWhole o.max_input (S.held source.old) name.now (S.left source.new) (λ input. sniffed ≡ found o input)) }
-        ensures columns { IfOk result (λ sniffed. HasColumns (schema_of self.now.options.now sniffed)) }
+            IfOk result (λ outcome. IsReadWhole o.max_input (S.held source.old) name.now (S.left source.new) (λ input. outcome ≡ sniffed_outcome o input)) }
+        ensures printable { IfOk result IsPrintable }
         ensures too_large { result ≡ Err stops.TooLarge → IsReadOver self.now.options.now.max_input (S.held source.old) name.now (S.left source.new) }
         ensures failed { result ≡ Err stops.Failed → Rose (S.faults source.old) (S.faults source.new) ⊎ Lacks (S.held source.old) name.now }
         ensures held { S.held source.new ≡ S.held source.old }
         ensures count { S.faults source.old ≤ S.faults source.new }
     {
         let mut head = self.open_head(name, source)?;
-        let finding = sniff_input(self.alloc, self.options, head.bytes())?;
+        let outcome = self.sniffed_outcome(head.bytes())?;
         head.read_past(source)?;
-        Ok(finding.sniffed)
+        Ok(outcome)
     }
 }
 

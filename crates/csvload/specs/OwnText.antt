@@ -28,5 +28,5 @@ own_text words = if asks_help words then Some Help else (if asks_version words t
 -- a text was written whole, or the sink failed and took a front
 abbrev pub IsTold : List ℕ → ℕ → ℕ → Option (List ℕ) → Option (List ℕ) → Ending → Type 0
 IsTold text faults_before faults_after before after ending =
-    ((ending ≡ Answered 0) × Appends before after text)
+    ((ending ≡ Answered 0 None) × Appends before after text)
     ⊎ ((ending ≡ WriteFault) × Rose faults_before faults_after × AppendsFront before after text)

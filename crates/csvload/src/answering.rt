@@ -63,7 +63,7 @@ fn tell<K: Sink>(sink: &mut K, text: &str) -> Ending
     ensures { IsTold text.now (K.faults sink.old) (K.faults sink.new) (K.taken sink.old) (K.taken sink.new) result }
 {
     match write_all(sink, text.as_bytes()) {
-        Ok(()) => Ending::Answered(0),
+        Ok(()) => Ending::Answered(0, None),
         Err(_) => Ending::WriteFault,
     }
 }

@@ -2,7 +2,7 @@
 use crate::excerpt::shortened;
 use crate::given::{command_word, count_of_pieces, name_of, subject, value_of};
 use csv_source::NoMemory;
-use load_options::limits::{COLUMN_LIMIT, TABLE_NAME_LIMIT};
+use load_options::limits::{COLUMN_LIMIT, COLUMN_TYPES_LIMIT, NULLS_LIMIT, TABLE_NAME_LIMIT};
 use load_options::{Allowed, NumberRange, allowed_texts, command_of, word_at};
 use std::alloc::Global;
 
@@ -48,21 +48,87 @@ fn bad_names(alloc: Global, word: &str) -> Result<String, NoMemory> {
     Ok(format!(in alloc; "'{twice}' stands twice in {name}")?)
 }
 
+/// That a text is no type.
+fn no_type(alloc: Global, text: &str) -> Result<String, NoMemory> {
+    let text = shortened(alloc, text.as_bytes())?;
+    Ok(format!(in alloc;
+        "'{text}' is no type (in upper case: BOOLEAN, BIGINT, DATE, TIME, TIMESTAMP, VARCHAR)"
+    )?)
+}
+
 /// Why types are refused: the first that is none.
 fn bad_types(alloc: Global, word: &str) -> Result<String, NoMemory> {
     let bad = value_of(word)
         .split(',')
         .find(|piece| !TYPES.contains(piece));
-    let line = match bad {
-        Some(piece) => {
-            let piece = shortened(alloc, piece.as_bytes())?;
-            format!(in alloc;
-                "'{piece}' is no type (in upper case: BOOLEAN, BIGINT, DATE, TIME, TIMESTAMP, VARCHAR)"
-            )?
+    match bad {
+        Some(piece) => no_type(alloc, piece),
+        None => Ok(format!(in alloc; "types takes {COLUMN_LIMIT} types at most")?),
+    }
+}
+
+/// The name and the type of a pair; it is cut at its last colon.
+fn cut_pair(pair: &str) -> (&str, &str) {
+    pair.rsplit_once(':').unwrap_or((pair, ""))
+}
+
+/// The first name of pairs that comes twice.
+fn doubled_name(value: &str) -> Option<&str> {
+    for (place, pair) in value.split(',').enumerate() {
+        let name = cut_pair(pair).0;
+        if value
+            .split(',')
+            .take(place)
+            .any(|earlier| cut_pair(earlier).0 == name)
+        {
+            return Some(name);
         }
-        None => format!(in alloc; "types takes {COLUMN_LIMIT} types at most")?,
-    };
-    Ok(line)
+    }
+    None
+}
+
+/// Why pairs of a name and a type are refused.
+fn bad_column_types(alloc: Global, word: &str) -> Result<String, NoMemory> {
+    let (name, value) = (name_of(word), value_of(word));
+    if count_of_pieces(value) > COLUMN_TYPES_LIMIT {
+        return Ok(format!(in alloc; "{name} takes {COLUMN_TYPES_LIMIT} columns at most")?);
+    }
+    let bad = value
+        .split(',')
+        .find(|pair| !TYPES.contains(&cut_pair(pair).1));
+    if let Some(pair) = bad {
+        if pair.contains(':') {
+            return no_type(alloc, cut_pair(pair).1);
+        }
+        let pair = shortened(alloc, pair.as_bytes())?;
+        return Ok(format!(in alloc;
+            "'{pair}' gives no type: {name} takes NAME:TYPE, cut at each comma"
+        )?);
+    }
+    if let Some(place) = value
+        .split(',')
+        .position(|pair| cut_pair(pair).0.is_empty())
+    {
+        let number = place.saturating_add(1);
+        return Ok(format!(in alloc; "name {number} of {name} is empty")?);
+    }
+    let twice = shortened(alloc, doubled_name(value).unwrap_or("").as_bytes())?;
+    Ok(format!(in alloc; "'{twice}' stands twice in {name}")?)
+}
+
+/// Why texts for null are refused.
+fn bad_nulls(alloc: Global, word: &str) -> Result<String, NoMemory> {
+    let (name, value) = (name_of(word), value_of(word));
+    if value.is_empty() {
+        return Ok(format!(in alloc;
+            "{name} takes texts, cut at each comma: nullstr= gives the empty one alone"
+        )?);
+    }
+    if count_of_pieces(value) > NULLS_LIMIT {
+        return Ok(format!(in alloc; "{name} takes {NULLS_LIMIT} texts at most")?);
+    }
+    let twice = shortened(alloc, doubled(value).unwrap_or("").as_bytes())?;
+    Ok(format!(in alloc; "'{twice}' stands twice in {name}")?)
 }
 
 /// What an option takes.
@@ -76,6 +142,8 @@ fn taken_by(alloc: Global, word: &str, allowed: Allowed) -> Result<String, NoMem
         Allowed::Text => format!(in alloc; "{name} takes any text")?,
         Allowed::Names => bad_names(alloc, word)?,
         Allowed::Types => bad_types(alloc, word)?,
+        Allowed::ColumnTypes => bad_column_types(alloc, word)?,
+        Allowed::Nulls => bad_nulls(alloc, word)?,
         Allowed::Format => format!(in alloc; "{name} takes csv or sqlite")?,
         Allowed::TableName => format!(in alloc;
             "{name} takes a name of 1 to {TABLE_NAME_LIMIT} bytes that isn't reject_scans or reject_errors and doesn't begin with sqlite_"
@@ -112,6 +180,8 @@ pub fn bad_value(alloc: Global, words: &[String], index: usize) -> Result<String
     let line = match allowed {
         Some(Allowed::Names) => bad_names(alloc, word)?,
         Some(Allowed::Types) => bad_types(alloc, word)?,
+        Some(Allowed::ColumnTypes) => bad_column_types(alloc, word)?,
+        Some(Allowed::Nulls) => bad_nulls(alloc, word)?,
         Some(allowed) => {
             let taken = taken_by(alloc, word, allowed)?;
             format!(in alloc; "'{shown_word}' is refused: {taken}")?

@@ -83,10 +83,44 @@ fn format_conflict(alloc: Global, words: &[String], word: &str) -> Result<String
         (_, "batch", _) => format!(in alloc;
             "batch writes no CSV: it prints its report, or a database with to=sqlite"
         )?,
+        (_, "rejects", _) => format!(in alloc; "rejects writes no other format than its CSV")?,
         (_, command, "csv") => format!(in alloc; "{command} writes no CSV: convert does")?,
         (_, command, _) => format!(in alloc; "{command} writes no database: convert and batch do")?,
     };
     Ok(line)
+}
+
+/// Why types of single columns can't stand beside types of all.
+fn types_conflict(alloc: Global, words: &[String]) -> Result<String, NoMemory> {
+    let columns = word_giving(words, "column_types").unwrap_or("");
+    match word_giving(words, "types") {
+        Some(types) => {
+            pair(
+                alloc,
+                columns,
+                types,
+                "can't stand together: types gives all columns their types",
+            )
+        }
+        None => {
+            pair(
+                alloc,
+                columns,
+                word_giving(words, "all_varchar").unwrap_or(""),
+                "can't stand together: all columns are VARCHAR then",
+            )
+        }
+    }
+}
+
+/// Why the two options for null can't stand together.
+fn nulls_conflict(alloc: Global, words: &[String]) -> Result<String, NoMemory> {
+    pair(
+        alloc,
+        word_giving(words, "nulls").unwrap_or(""),
+        word_giving(words, "nullstr").unwrap_or(""),
+        "can't stand together: nulls takes all the texts",
+    )
 }
 
 /// Why the word at that place can't stand beside another, or with the command.
@@ -95,7 +129,7 @@ pub fn conflict(alloc: Global, words: &[String], word: &str) -> Result<String, N
         return format_conflict(alloc, words, word);
     }
     if let Some(limit) = word_giving(words, "rejects_limit") {
-        if !gives(words, "store_rejects", "true") {
+        if !gives(words, "store_rejects", "true") && command_word(words) != "rejects" {
             let limit = shortened(alloc, limit.as_bytes())?;
             return Ok(format!(in alloc; "{limit} wants store_rejects=true")?);
         }
@@ -121,5 +155,13 @@ pub fn conflict(alloc: Global, words: &[String], word: &str) -> Result<String, N
     if let Some((first, second)) = same_character(words) {
         return pair(alloc, first, second, "are the same character");
     }
-    escape_alone(alloc, words, word_giving(words, "escape").unwrap_or(word))
+    match name_of(word) {
+        "column_types" | "types" | "all_varchar" => types_conflict(alloc, words),
+        "nulls" | "nullstr" => nulls_conflict(alloc, words),
+        "max_errors" => {
+            let bound = shortened(alloc, word.as_bytes())?;
+            Ok(format!(in alloc; "{bound} wants ignore_errors=true or store_rejects=true")?)
+        }
+        _ => escape_alone(alloc, words, word_giving(words, "escape").unwrap_or(word)),
+    }
 }

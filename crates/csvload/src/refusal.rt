@@ -33,12 +33,12 @@ pub fn refusal(alloc: Global, words: &[String], fault: WordFault) -> Result<Stri
     let word = word_at(words, fault.index);
     match fault.rule {
         WordRule::NoCommand => Ok(format!(in alloc;
-            "a command is wanted: load, summary, convert, batch, sniff or make (see csvload --help)"
+            "a command is wanted: load, summary, convert, rejects, batch, sniff or make (see csvload --help)"
         )?),
         WordRule::BadCommand => {
             let word = shortened(alloc, word.as_bytes())?;
             Ok(format!(in alloc;
-                "'{word}' is no command: load, summary, convert, batch, sniff and make are (see csvload --help)"
+                "'{word}' is no command: load, summary, convert, rejects, batch, sniff and make are (see csvload --help)"
             )?)
         }
         WordRule::NoFile => no_file(alloc, command_word(words)),

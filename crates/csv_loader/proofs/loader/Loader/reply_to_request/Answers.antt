@@ -1,5 +1,5 @@
 use Rattle.std.proofs.Common.{map}
-use Rattle.csv_loader.proofs.Replies.{batch_told, convert_told, load_told, made_told, sniff_told, summary_told}
+use Rattle.csv_loader.proofs.Replies.{batch_told, convert_told, load_told, made_told, rejects_told, sniff_told, summary_told}
 use Rattle.csv_loader.proofs.Results.{ok_weaker}
 use Rattle.csv_loader.proofs.loader.Loader.reply_to_request.Goals as goal
 
@@ -50,3 +50,11 @@ returns-in-Batch-clause-ok g c =
     (λ r told. batch_told c.args.request.now c.args.word.now taps (g.S.Source.held c.args.source.now) (g.S.Source.left c.loaded_reply-in-Batch.new.source) (g.S.Source.faults c.args.source.now) (g.S.Source.faults c.loaded_reply-in-Batch.new.source)
     r c.in-Batch.is c.args.self.now.options.now c.requires.same c.in_format-answer-in-Batch.result c.in_format-answer-in-Batch.ensures told)
     c.loaded_reply-in-Batch.ensures.ok
+
+pub returns-in-Rejects-clause-ok : goal.returns-in-Rejects-clause-ok
+returns-in-Rejects-clause-ok g c =
+    let taps = map (λ tap. (goal.RowTap-dyn g (tap.vtable, tap.value)).seen tap.value) c.args.taps.items in
+    ok_weaker c.loaded_reply-in-Rejects.result _ _
+    (λ r told. rejects_told c.args.request.now c.args.word.now taps (g.S.Source.held c.args.source.now) (g.S.Source.left c.loaded_reply-in-Rejects.new.source) (g.S.Source.faults c.args.source.now) (g.S.Source.faults c.loaded_reply-in-Rejects.new.source)
+    r c.in-Rejects.is c.args.self.now.options.now c.requires.same told)
+    c.loaded_reply-in-Rejects.ensures.ok

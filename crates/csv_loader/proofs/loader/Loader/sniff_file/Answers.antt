@@ -1,8 +1,8 @@
 use Rattle.std.proofs.Common.{◌≡◌, ◌+◌, ◌∙◌, ap, rules}
 use Rattle.window_load.specs.Window.{reach}
-use Rattle.csv_sniffer.specs.Input.{found}
+use Rattle.csv_loader.specs.Reply.{sniffed_outcome}
 use Rattle.csv_loader.proofs.HeadFiles.{whole_file, over_file}
-use Rattle.csv_loader.proofs.HeadSteps.{past_over, past_whole, found_in_all}
+use Rattle.csv_loader.proofs.HeadSteps.{past_over, past_whole, sniffed_in_all}
 use Rattle.csv_loader.proofs.loader.Loader.sniff_file.Goals as goal
 
 pub returns-in_err-read_past-clause-too_large : goal.returns-in_err-read_past-clause-too_large
@@ -14,9 +14,9 @@ returns-in_err-read_past-clause-too_large g c = λ e.
 pub returns-clause-ok : goal.returns-clause-ok
 returns-clause-ok g c =
     let o = c.args.self.now.options.now in
-    let s = c.in_ok-finding.finding.sniffed in
+    let outcome = c.in_ok-outcome.outcome in
     whole_file c.args.self.now.options.now.max_input (g.S.Source.held c.args.source.now) c.args.name.now (g.S.Source.left c.open_head.new.source) (g.S.Source.left c.read_past.new.source) c.in_ok-head.head c.in_ok-head.ensures.ok.0.limit c.in_ok-head.ensures.ok.1
-    (λ input. s ≡ found o input) (λ input. s ≡ found o input) (λ came quiet is. is)
+    (λ input. outcome ≡ sniffed_outcome o input) (λ input. outcome ≡ sniffed_outcome o input) (λ came quiet is. is)
     (past_whole (g.S.Source.left c.open_head.new.source) (g.S.Source.left c.read_past.new.source) c.in_ok-head.head c.read_past.new.self c.in_ok-head.ensures.ok.0.begins c.read_past.ensures.moved
-    (λ input. s ≡ found o input) c.read_past.ensures.stays (c.read_past.ensures.at_end c.in_ok-read_past.ensures.ok.0) c.in_ok-read_past.ensures.ok.1
-    (λ came quiet. found_in_all o c.in_ok-head.head c.in_ok-head.ensures.ok.0 came quiet s (c.in_ok-finding.ensures.ok ∙ ap (found o) c.bytes.ensures)))
+    (λ input. outcome ≡ sniffed_outcome o input) c.read_past.ensures.stays (c.read_past.ensures.at_end c.in_ok-read_past.ensures.ok.0) c.in_ok-read_past.ensures.ok.1
+    (λ came quiet. sniffed_in_all o c.in_ok-head.head c.in_ok-head.ensures.ok.0 came quiet outcome (c.in_ok-outcome.ensures.ok ∙ ap (sniffed_outcome o) c.bytes.ensures)))

@@ -9,7 +9,7 @@ pub returns-in-Ok-clause-ok : goal.returns-in-Ok-clause-ok
 returns-in-Ok-clause-ok g c =
     ok_weaker c.report.result _ _
     (λ r is. sniffed_told c.args.self.now.options.now (g.S.Source.held c.args.source.now) c.args.name.now (g.S.Source.left c.sniff_file.new.source)
-    (g.S.Source.faults c.args.source.now) (g.S.Source.faults c.sniff_file.new.source) c.in-Ok.sniffed r is c.in-Ok.ensures.ok)
+    (g.S.Source.faults c.args.source.now) (g.S.Source.faults c.sniff_file.new.source) c.in-Ok.outcome r is c.in-Ok.ensures.ok)
     c.report.ensures
 
 pub returns-in-Err-clause-ok : goal.returns-in-Err-clause-ok
