@@ -13,6 +13,7 @@ use Rattle.value_types.specs.Datum.{Datum, null, typed, text}
 use Rattle.value_types.specs.OfType.{fit_all}
 use Rattle.value_types.specs.Spelled.{IsSpelled}
 use Rattle.load_options.specs.declared.options.Options.{Options}
+use Rattle.load_options.specs.declared.options.Command.TheVariants.{Load}
 use Rattle.load_options.specs.Request.{options_given}
 use Rattle.csv_sniffer.specs.Sample.{sample_limit}
 use Rattle.csv_writer.specs.Writable.{IsReadableCell}
@@ -31,7 +32,7 @@ abbrev rows : List (List Datum)
 rows = (typed (Int (pos 1)) ∷ text (codes "a,b") ∷ []) ∷ (null ∷ text [] ∷ []) ∷ (typed (Int (pos 3)) ∷ null ∷ []) ∷ []
 
 abbrev options : Options
-options = options_given (codes "delim=," ∷ codes "quote=\"" ∷ codes "escape=\"" ∷ codes "header=true" ∷ codes "allow_quoted_nulls=false" ∷ codes "types=BIGINT,VARCHAR" ∷ [])
+options = options_given Load (codes "delim=," ∷ codes "quote=\"" ∷ codes "escape=\"" ∷ codes "header=true" ∷ codes "allow_quoted_nulls=false" ∷ codes "types=BIGINT,VARCHAR" ∷ [])
 
 says_how : ReadsWritten options types
 unfolding digits is_utf8 chars encode utf8_valid_len
@@ -43,10 +44,12 @@ says_how = record {
   header = refl;
   skip = refl;
   nullstr = refl;
+  nulls = refl;
   quoted_texts = refl;
   typed = refl;
   names = refl;
   types = refl;
+  column_types = refl;
   sampled = (let default : options.sample_size ≡ 20480 = refl in omega (arith, default));
 }
 

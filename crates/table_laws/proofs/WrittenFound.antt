@@ -20,6 +20,7 @@ use Rattle.csv_sniffer.specs.Header.{looks_like_header}
 use Rattle.csv_sniffer.specs.Sniffed.{chosen_dialect, column_count, has_whole_row, header_choice, has_header, first_if, behind_first_if, behind_row, sniffed_under, sniffed}
 use Rattle.table_laws.specs.Laws.{csv_marks, ReadsWritten}
 use Rattle.table_laws.proofs.WrittenSample.{FirstRow}
+use Rattle.csv_sniffer.proofs.NamedTypes.{none_given}
 
 -- ---- the dialect
 
@@ -94,7 +95,9 @@ module _ (o : Options) (tys : List ColumnType) (r : ReadsWritten o tys) (some : 
       record {
         dialect = refl;
         names = names_are columns header (columns_are (score_rows d rows).mode) (headed columns);
-        types = types_are columns (behind_first_if header rows);
+        types =
+        none_given o.column_types (final_names o.names d columns (first_if header rows)) (final_types o d columns (behind_first_if header rows)) r.column_types
+        ∙ types_are columns (behind_first_if header rows);
         data_start = start_is header (headed columns);
       }
 

@@ -57,10 +57,12 @@ pub record ReadsWritten (o : Options) (tys : List ColumnType) : Type 0 where
   pub header : o.header ≡ Some true
   pub skip : o.skip ≡ 0
   pub nullstr : o.nullstr ≡ []
+  pub nulls : o.nulls ≡ []
   pub quoted_texts : o.allow_quoted_nulls ≡ false
   pub typed : o.all_varchar ≡ false
   pub names : o.names ≡ []
   pub types : o.types ≡ tys
+  pub column_types : is_empty o.column_types.names ≡ true
   pub sampled : 1 ≤ o.sample_size
 
 -- a name that a header can give: UTF-8, and not empty
