@@ -1,6 +1,7 @@
 //! The tests, a module for each subject.
 mod batch;
 mod claims;
+mod column_types;
 mod comments;
 mod comments_beside;
 mod conflicts;
@@ -10,6 +11,7 @@ mod crew;
 mod database;
 mod endings;
 mod example;
+mod explained;
 mod faults;
 mod faulty_rows;
 mod found;
@@ -18,9 +20,12 @@ mod large;
 mod long_lines;
 mod made;
 mod made_written;
+mod max_errors;
+mod nulls;
 mod ranges;
 mod refused;
 mod rejects;
+mod rejects_written;
 mod stages;
 mod taps;
 mod watched;

@@ -51,6 +51,7 @@ pub(crate) fn found(alloc: Global) -> Result<Sniffed, NoMemory>
         names: four_names(alloc)?,
         types: four_types(alloc)?,
         data_start: 0,
+        other_delim: None,
     })
 }
 

@@ -20,7 +20,7 @@ const TWO: File<'static> = ("b.csv", b"id,v\nx,b\n2,c\n");
 
 const BOTH: &[File<'static>] = &[ONE, TWO];
 
-const CASES: [FilesCase; 9] = [
+const CASES: [FilesCase; 10] = [
     FilesCase {
         words: &["batch", "a.csv,b.csv", "store_rejects=true"],
         files: BOTH,
@@ -56,6 +56,20 @@ error|0|1|2|6|6|1|id|CAST|x,b|Error when converting column \"id\". Could not con
         files: BOTH,
         status: 2,
         text: b"fault|read\n",
+    },
+    // One fault in each file.
+    FilesCase {
+        words: &[
+            "batch",
+            "b.csv,b.csv",
+            "types=BIGINT,VARCHAR",
+            "header=true",
+            "ignore_errors=true",
+            "max_errors=1",
+        ],
+        files: BOTH,
+        status: 9,
+        text: b"fault|over 1 faults\n",
     },
     // The same file twice, whose numbers are added.
     FilesCase {

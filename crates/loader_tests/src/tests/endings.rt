@@ -1,4 +1,5 @@
 //! How runs end, with what was found out.
+mod hinted;
 mod passed_over;
 mod stopped;
 
@@ -24,12 +25,16 @@ struct Place {
 /// The ending that is wanted.
 enum Wanted {
     Answered(u64),
+    /// An answer with a hint at another delimiter.
+    Hinted(u8),
     Refused(WordRule, usize),
     ReadFault,
     FirstError(Place),
     WriteFault,
     TooLarge(u64),
     TooManyColumns(u64),
+    NoColumn(&'static [u8]),
+    TooManyFaults(u64),
 }
 
 /// Words, the files by their names, and how the run ends.
@@ -50,7 +55,8 @@ fn is_at(place: &Place, reject: &Reject) -> bool {
 /// Whether an ending is the one that is wanted.
 fn is_wanted(wanted: &Wanted, ending: &Ending) -> bool {
     match (wanted, ending) {
-        (Wanted::Answered(wanted), Ending::Answered(faults)) => wanted == faults,
+        (Wanted::Answered(wanted), Ending::Answered(faults, None)) => wanted == faults,
+        (Wanted::Hinted(wanted), Ending::Answered(0, Some(delim))) => wanted == delim,
         (Wanted::Refused(rule, index), Ending::Refused(fault)) => {
             fault.rule == *rule && fault.index == *index
         }
@@ -59,6 +65,10 @@ fn is_wanted(wanted: &Wanted, ending: &Ending) -> bool {
         (Wanted::TooManyColumns(wanted), Ending::Mismatch(Mismatch::TooManyColumns(limit))) => {
             wanted == limit
         }
+        (Wanted::NoColumn(wanted), Ending::Mismatch(Mismatch::NoColumn(name, _))) => {
+            name.as_slice() == *wanted
+        }
+        (Wanted::TooManyFaults(wanted), Ending::TooManyFaults(bound)) => wanted == bound,
         (Wanted::ReadFault, Ending::ReadFault) | (Wanted::WriteFault, Ending::WriteFault) => true,
         _ => false,
     }
@@ -67,13 +77,14 @@ fn is_wanted(wanted: &Wanted, ending: &Ending) -> bool {
 /// The exit status of the program that goes with it.
 fn code_of(wanted: &Wanted) -> u8 {
     match wanted {
-        Wanted::Answered(_) => 0,
+        Wanted::Answered(_) | Wanted::Hinted(_) => 0,
         Wanted::Refused(..) => 1,
         Wanted::ReadFault => 2,
         Wanted::FirstError(_) => 3,
-        Wanted::TooManyColumns(_) => 4,
+        Wanted::TooManyColumns(_) | Wanted::NoColumn(_) => 4,
         Wanted::WriteFault => 5,
         Wanted::TooLarge(_) => 7,
+        Wanted::TooManyFaults(_) => 9,
     }
 }
 

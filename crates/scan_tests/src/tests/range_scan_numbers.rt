@@ -29,6 +29,7 @@ fn schema(alloc: Global, null: &[u8], max_line_size: u64) -> Result<Schema, NoMe
         names,
         types,
         nullstr: Bytes::copy_of(alloc, null)?,
+        nulls: Names::new(alloc),
         allow_quoted_nulls: true,
         null_padding: false,
         max_line_size,

@@ -12,8 +12,8 @@ use std::process::Abort;
 use std::test::Fail;
 use value_types::{ColumnType, Names, Types};
 
-/// A date, a text, a number and a truth value.
-fn schema(alloc: Global, null: &[u8], quoted_nulls: bool) -> Result<Schema, NoMemory>
+/// A date, a text, a number and a truth value, with some texts that stand for null, a comma between each two.
+fn schema(alloc: Global, nulls: &str, quoted_nulls: bool) -> Result<Schema, NoMemory>
     ensures { IfOk result HasColumns }
 {
     let mut names = Names::new(alloc);
@@ -26,17 +26,23 @@ fn schema(alloc: Global, null: &[u8], quoted_nulls: bool) -> Result<Schema, NoMe
     types.push(ColumnType::Varchar)?;
     types.push(ColumnType::Bigint)?;
     types.push(ColumnType::Boolean)?;
+    let mut further = Names::new(alloc);
+    for text in nulls.split(',').skip(1) {
+        further.push(text.as_bytes())?;
+    }
+    let first = nulls.split(',').next().unwrap_or("");
     Ok(Schema {
         names,
         types,
-        nullstr: Bytes::copy_of(alloc, null)?,
+        nullstr: Bytes::copy_of(alloc, first.as_bytes())?,
+        nulls: further,
         allow_quoted_nulls: quoted_nulls,
         null_padding: false,
         max_line_size: 40,
     })
 }
 
-/// The text that stands for null, whether it may stand between quotes, a text, its rows and its rejects.
+/// The texts that stand for null, whether they may stand between quotes, a text, its rows and its rejects.
 struct Case(
     &'static str,
     bool,
@@ -46,7 +52,53 @@ struct Case(
 );
 
 /// Days are counted from 1970. The texts' first bytes stand at place 101 of the input, counted from 1.
-const CASES: [Case; 29] = [
+const CASES: [Case; 39] = [
+    Case("NA,,-", true, b"NA,,-,\n", b"|\\N|\\N|\\N|\\N", b""),
+    Case("NA,", true, b",,,NA\n", b"|\\N|\\N|\\N|\\N", b""),
+    Case("NA,no", true, b",red,5,true\n", b"", b"|1|101"),
+    Case(
+        "NA,no",
+        true,
+        b"1970-01-02,no,NA,no\n",
+        b"|1|\\N|\\N|\\N",
+        b"",
+    ),
+    Case(
+        "NA,no",
+        true,
+        b"1970-01-02,nor,5,true\n",
+        b"|1|nor|5|true",
+        b"",
+    ),
+    Case("NA,no", true, b"1970-01-02,n,5,true\n", b"|1|n|5|true", b""),
+    Case(
+        "NA,no",
+        true,
+        b"1970-01-02,\"no\",5,true\n",
+        b"|1|\\N|5|true",
+        b"",
+    ),
+    Case(
+        "NA,no",
+        false,
+        b"1970-01-02,\"no\",5,true\n",
+        b"|1|no|5|true",
+        b"",
+    ),
+    Case(
+        "NA,x\"y",
+        true,
+        b"1970-01-02,\"x\"\"y\",5,true\n",
+        b"|1|\\N|5|true",
+        b"",
+    ),
+    Case(
+        "NA,5",
+        true,
+        b"1970-01-02,red,5,true\n",
+        b"|1|red|\\N|true",
+        b"",
+    ),
     Case("", true, b"1970-01-02,red,5,true\n", b"|1|red|5|true", b""),
     Case("", true, b",,,\n", b"|\\N|\\N|\\N|\\N", b""),
     Case("", true, b"1970-01-02,,5,\n", b"|1|\\N|5|\\N", b""),
@@ -205,7 +257,7 @@ fn check_text(
     assert!(rt; text.len() < 1000 && size > 0);
     let context = Context {
         dialect: commented(rt, commas(rt)),
-        schema: schema(alloc, case.0.as_bytes(), case.1)?,
+        schema: schema(alloc, case.0, case.1)?,
         keep: Keep::All,
         scan_id: 0,
         file_id: 0,

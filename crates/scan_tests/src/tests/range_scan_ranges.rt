@@ -29,6 +29,7 @@ fn schema(alloc: Global, first: ColumnType) -> Result<Schema, NoMemory>
         names,
         types,
         nullstr: Bytes::from_vec(Vec::new(alloc)),
+        nulls: Names::new(alloc),
         allow_quoted_nulls: true,
         null_padding: true,
         max_line_size: 2_097_152,

@@ -61,6 +61,7 @@ pub fn schema(alloc: Global, kind: Kind) -> Result<Schema, NoMemory> {
         names,
         types,
         nullstr: Bytes::from_vec(Vec::new(alloc)),
+        nulls: Names::new(alloc),
         allow_quoted_nulls: !matches!(kind, Kind::QuotedTexts),
         null_padding: matches!(kind, Kind::Padded),
         max_line_size: if matches!(kind, Kind::Short) {

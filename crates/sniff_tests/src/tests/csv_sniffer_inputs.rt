@@ -44,7 +44,7 @@ pub struct Found(
 );
 
 /// Inputs that show a rule each, with what DuckDB's manual and this loader's rules find in them.
-const FOUND: [Found; 23] = [
+const FOUND: [Found; 24] = [
     Found(
         "load f.csv",
         FLIGHTS,
@@ -158,6 +158,13 @@ const FOUND: [Found; 23] = [
         Newline::Lf,
         "d:VARCHAR b:BOOLEAN t:TIME n:VARCHAR ",
         8,
+    ),
+    Found(
+        "load f.csv nulls=NA,-",
+        "d,t\n-,2020-01-01 10:30:00\n2020-01-01,-\nNA,2020-01-02\n",
+        Newline::Lf,
+        "d:DATE t:TIMESTAMP ",
+        4,
     ),
     Found(
         "load f.csv nullstr=-",

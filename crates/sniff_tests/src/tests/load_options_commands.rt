@@ -8,11 +8,12 @@ use std::test::Fail;
 /// A line, its command, the number of `make`, and the rows.
 struct Commanded(&'static str, Command, u32, u64);
 
-const COMMANDED: [Commanded; 6] = [
+const COMMANDED: [Commanded; 7] = [
     Commanded("load f.csv", Command::Load, 0, 0),
     Commanded("sniff f.csv", Command::Sniff, 0, 0),
     Commanded("summary f.csv", Command::Summary, 0, 0),
     Commanded("convert f.csv comment=# threads=8", Command::Convert, 0, 0),
+    Commanded("rejects f.csv rejects_limit=5", Command::Rejects, 0, 0),
     Commanded("batch a.csv,b.csv,a.csv", Command::Batch, 0, 0),
     Commanded("make 7 rows=2", Command::Make, 7, 2),
 ];
@@ -39,6 +40,9 @@ fn commands_take_the_options_of_load(rt: HostRuntime) -> Result<(), Fail> {
     assert_eq!(rt; converted.options.threads, 8);
     let several = accepted(&rt, rt.alloc(), "batch a.csv,b.csv store_rejects=true")?;
     assert!(rt; several.options.store_rejects);
+    let listed = accepted(&rt, rt.alloc(), "rejects f.csv max_errors=2")?;
+    assert!(rt; listed.options.store_rejects && !listed.options.ignore_errors);
+    assert_eq!(rt; listed.options.max_errors, Some(2));
     Ok(())
 }
 
@@ -63,7 +67,7 @@ fn a_batch_names_files(rt: HostRuntime) -> Result<(), Fail> {
 /// An option by the words before it and its name, and the ends of its range with one past each.
 struct Ends(&'static str, [&'static str; 4]);
 
-const ENDS: [Ends; 8] = [
+const ENDS: [Ends; 9] = [
     Ends("load f.csv skip=", ["", "0", "1000000", "1000001"]),
     Ends("load f.csv sample_size=", ["0", "1", "1000000", "1000001"]),
     Ends(
@@ -78,6 +82,10 @@ const ENDS: [Ends; 8] = [
     Ends("load f.csv range_size=", ["0", "1", "67108864", "67108865"]),
     Ends(
         "load f.csv store_rejects=true rejects_limit=",
+        ["", "0", "4294967295", "4294967296"],
+    ),
+    Ends(
+        "load f.csv ignore_errors=true max_errors=",
         ["", "0", "4294967295", "4294967296"],
     ),
     Ends("make 7 rows=", ["", "0", "10000000", "10000001"]),

@@ -8,7 +8,7 @@ use std::test::Fail;
 /// A line that is refused, the rule that it breaks first, and the place of the word.
 struct Refused(&'static str, WordRule, usize);
 
-const REFUSED: [Refused; 67] = [
+const REFUSED: [Refused; 96] = [
     Refused("", WordRule::NoCommand, 0),
     Refused("copy f.csv", WordRule::BadCommand, 0),
     Refused("load", WordRule::NoFile, 1),
@@ -123,6 +123,67 @@ const REFUSED: [Refused; 67] = [
     Refused("summary f.csv to=sqlite", WordRule::Conflict, 2),
     Refused("sniff f.csv threads=2 to=sqlite", WordRule::Conflict, 3),
     Refused("batch a.csv,b.csv to=csv", WordRule::Conflict, 2),
+    Refused("load f.csv column_types=zip", WordRule::BadValue, 2),
+    Refused("load f.csv column_types=zip:TEXT", WordRule::BadValue, 2),
+    Refused("load f.csv column_types=", WordRule::BadValue, 2),
+    Refused("load f.csv column_types=:DATE", WordRule::BadValue, 2),
+    Refused("load f.csv column_types=DATE:a", WordRule::BadValue, 2),
+    Refused("load f.csv column_types=a:DATE,", WordRule::BadValue, 2),
+    Refused(
+        "load f.csv column_types=zip:DATE,zip:DATE",
+        WordRule::BadValue,
+        2,
+    ),
+    Refused("make 7 column_types=a:DATE", WordRule::BadOption, 2),
+    Refused(
+        "load f.csv types=DATE column_types=zip:DATE",
+        WordRule::Conflict,
+        3,
+    ),
+    Refused(
+        "load f.csv column_types=zip:DATE types=DATE",
+        WordRule::Conflict,
+        3,
+    ),
+    Refused(
+        "load f.csv column_types=zip:DATE all_varchar=true",
+        WordRule::Conflict,
+        3,
+    ),
+    Refused(
+        "load f.csv all_varchar=true column_types=zip:DATE",
+        WordRule::Conflict,
+        3,
+    ),
+    Refused("load f.csv nulls=NA,NA", WordRule::BadValue, 2),
+    Refused("load f.csv nulls=", WordRule::BadValue, 2),
+    Refused("load f.csv nulls=,", WordRule::BadValue, 2),
+    Refused("load f.csv nullstr=x nulls=NA,", WordRule::Conflict, 3),
+    Refused("load f.csv nulls=NA nullstr=", WordRule::Conflict, 3),
+    Refused("load f.csv max_errors=5", WordRule::Conflict, 2),
+    Refused(
+        "load f.csv store_rejects=false max_errors=5 ignore_errors=false",
+        WordRule::Conflict,
+        3,
+    ),
+    Refused(
+        "load f.csv max_errors=5 to=sqlite nulls=a nullstr=a",
+        WordRule::Conflict,
+        3,
+    ),
+    Refused("load f.csv explain=true", WordRule::BadOption, 2),
+    Refused("batch a.csv,b.csv explain=true", WordRule::BadOption, 2),
+    Refused("sniff f.csv explain=1", WordRule::BadValue, 2),
+    Refused(
+        "sniff f.csv explain=true explain=true",
+        WordRule::Repeated,
+        3,
+    ),
+    Refused("rejects", WordRule::NoFile, 1),
+    Refused("rejects f.csv to=csv", WordRule::Conflict, 2),
+    Refused("rejects f.csv table=t to=sqlite", WordRule::Conflict, 3),
+    Refused("rejects f.csv table=t", WordRule::Conflict, 2),
+    Refused("rejects f.csv rows=2", WordRule::BadOption, 2),
     Refused(
         "convert f.csv comment=, table=orders delim=,",
         WordRule::Conflict,

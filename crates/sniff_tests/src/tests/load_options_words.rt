@@ -29,6 +29,12 @@ fn check_other_defaults(rt: &impl Abort, options: &Options) {
     assert!(rt; !options.stats && !options.pipeline);
     assert_eq!(rt; options.names.len(), 0);
     assert_eq!(rt; options.types.len(), 0);
+    assert_eq!(rt; options.column_types.names.len(), 0);
+    assert_eq!(rt; options.column_types.types.len(), 0);
+    assert_eq!(rt; options.nullstr.as_slice(), b"".as_slice());
+    assert_eq!(rt; options.nulls.len(), 0);
+    assert_eq!(rt; options.max_errors, None);
+    assert!(rt; !options.explain);
     assert_eq!(rt; options.to, None);
     assert_eq!(rt; options.table.as_slice(), b"data".as_slice());
 }

@@ -16,6 +16,7 @@ use reject_book::{Book, ErrorKind, Keep, Reject};
 use report_text::{Loaded, Mismatch, Outcome, Stats, make_text, render};
 use std::alloc::Global;
 use std::thread::Threads;
+use text_pieces::Pieces;
 use value_types::{Cell, Cells, Names, Types};
 
 const FOUND: &[u8] =
@@ -50,6 +51,7 @@ fn sniffed(alloc: Global) -> Result<Sniffed, NoMemory>
         names,
         types,
         data_start: 9,
+        other_delim: None,
     })
 }
 
@@ -190,10 +192,15 @@ fn joined(alloc: Global, parts: &[&[u8]]) -> Result<Vec<u8>, NoMemory> {
     Ok(text)
 }
 
+/// The text of a kind of report.
+fn rendered<R: Threads + Sync>(rt: &R, alloc: Global, kind: Kind) -> Result<Pieces, NoMemory> {
+    let outcome = outcome(alloc, kind)?;
+    render(rt, alloc, &outcome, 4)
+}
+
 /// Whether a report has its lines.
 fn is_rendered<R: Threads + Sync>(rt: &R, alloc: Global, row: &Report) -> Result<bool, NoMemory> {
-    let outcome = outcome(alloc, row.0)?;
-    let text = render(rt, alloc, &outcome, 4)?;
+    let text = rendered(rt, alloc, row.0)?;
     is_text(alloc, &text, &joined(alloc, row.1)?)
 }
 

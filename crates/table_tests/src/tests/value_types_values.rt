@@ -2,10 +2,12 @@
 ghost use Rattle.std.specs.Prelude.{◌≢◌};
 ghost use Rattle.value_types.specs.declared.types.ColumnType.TheVariants.{Varchar};
 
+use csv_source::NoMemory;
+use std::alloc::Global;
 use std::process::Abort;
 use value_types::{
-    ColumnType, Value, cast, cast_bigint, cast_boolean, cast_date, cast_time, cast_timestamp,
-    is_null, number_within, write_value,
+    ColumnType, Names, Value, cast, cast_bigint, cast_boolean, cast_date, cast_time,
+    cast_timestamp, is_null, number_within, write_value,
 };
 
 /// A text, and the value that it is cast to.
@@ -172,8 +174,26 @@ fn digits_spell_numbers_within_a_limit(rt: HostRuntime) {
     }
 }
 
+/// Two further texts that stand for null.
+fn further(alloc: Global) -> Result<Names, NoMemory> {
+    let mut texts = Names::new(alloc);
+    texts.push(b"NA")?;
+    texts.push(b"")?;
+    Ok(texts)
+}
+
 #[test]
-fn a_quoted_null_has_to_be_allowed(rt: HostRuntime) {
-    assert!(rt; is_null(b"-", false, false, b"-") && is_null(b"-", true, true, b"-"));
-    assert!(rt; !is_null(b"-", false, true, b"-") && !is_null(b"-", true, false, b""));
+fn a_quoted_null_has_to_be_allowed(rt: HostRuntime) -> Result<(), NoMemory> {
+    let (alone, more) = (Names::new(rt.alloc()), further(rt.alloc())?);
+    assert!(rt;
+        is_null(b"-", &alone, false, false, b"-") && is_null(b"-", &alone, true, true, b"-")
+    );
+    assert!(rt;
+        !is_null(b"-", &alone, false, true, b"-") && !is_null(b"-", &alone, true, false, b"")
+    );
+    assert!(rt; is_null(b"-", &more, false, false, b"NA") && is_null(b"-", &more, true, true, b""));
+    assert!(rt;
+        !is_null(b"-", &more, false, true, b"NA") && !is_null(b"-", &more, true, false, b"N")
+    );
+    Ok(())
 }
