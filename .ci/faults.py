@@ -39,7 +39,7 @@ PAUSE = 4_300_000
 MEMORY = (3_000, 4_000, 5_000, 6_000, 8_000, 12_000, 24_000, 48_000, 96_000, 192_000)
 
 # Each call that writes.
-CALLS = [f"{command} short.csv" for command in ("load", "summary", "convert", "batch", "sniff")]
+CALLS = [f"{command} short.csv" for command in ("load", "summary", "convert", "rejects", "batch", "sniff")]
 CALLS += ["make 7", "--help", "--version"]
 
 FAULT = b"fault|read\n"

@@ -25,7 +25,7 @@ SEEDS = [
     b"a\\\"b,\"c\\\"d\"\r1,2\r\n",
 ]
 
-COMMANDS = [["load"], ["load"], ["summary"], ["convert"], ["convert", "to=sqlite"]]
+COMMANDS = [["load"], ["load"], ["summary"], ["convert"], ["convert", "to=sqlite"], ["rejects"]]
 
 WORDS = [
     ["header=false"],
@@ -41,6 +41,7 @@ WORDS = [
     ["max_line_size=9"],
     ["sample_size=2"],
     ["nullstr=a", "allow_quoted_nulls=false"],
+    ["nulls=a,,1"],
     ["store_rejects=true"],
     ["store_rejects=true", "rejects_limit=2"],
     ["ignore_errors=true"],

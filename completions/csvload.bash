@@ -20,7 +20,7 @@ _csvload() {
     local word=${COMP_WORDS[COMP_CWORD]}
     COMPREPLY=()
     if [ "$COMP_CWORD" -eq 1 ]; then
-        mapfile -t COMPREPLY < <(compgen -W 'load summary convert batch sniff make help version --help --version' -- "$word")
+        mapfile -t COMPREPLY < <(compgen -W 'load summary convert rejects batch sniff make help version --help --version' -- "$word")
         return
     fi
     case ${COMP_WORDS[1]} in
@@ -28,7 +28,7 @@ _csvload() {
             compopt -o nospace
             [ "$COMP_CWORD" -eq 3 ] && mapfile -t COMPREPLY < <(compgen -W 'rows=' -- "$word")
             ;;
-        load | summary | convert | batch | sniff)
+        load | summary | convert | rejects | batch | sniff)
             if [ "$COMP_CWORD" -eq 2 ]; then
                 # Of several names the last one is completed; what is quoted is taken as it is meant.
                 local first= last
@@ -46,7 +46,7 @@ _csvload() {
                 *) [ "${COMP_WORDS[COMP_CWORD - 1]}" = = ] && name=${COMP_WORDS[COMP_CWORD - 2]} || name= ;;
             esac
             case $name in
-                header | all_varchar | allow_quoted_nulls | null_padding | ignore_errors | store_rejects | pipeline | stats)
+                header | all_varchar | allow_quoted_nulls | null_padding | ignore_errors | store_rejects | pipeline | stats | explain)
                     mapfile -t COMPREPLY < <(compgen -W 'true false' -- "$value")
                     ;;
                 to)
@@ -59,10 +59,12 @@ _csvload() {
                     mapfile -t COMPREPLY < <(compgen -P "$before" -W 'BOOLEAN BIGINT DATE TIME TIMESTAMP VARCHAR' -- "${value##*,}")
                     ;;
                 '')
-                    mapfile -t COMPREPLY < <(compgen -W 'delim= quote= escape= comment= header= skip= nullstr= allow_quoted_nulls=
-                        all_varchar= names= types= sample_size= null_padding= ignore_errors= store_rejects=
-                        rejects_limit= max_line_size= max_input= threads= range_size= pipeline= stats=
-                        to= table=' -- "$word")
+                    local own=
+                    [[ ${COMP_WORDS[1]} == sniff ]] && own=explain=
+                    mapfile -t COMPREPLY < <(compgen -W "delim= quote= escape= comment= header= skip= nullstr= nulls=
+                        allow_quoted_nulls= all_varchar= names= types= column_types= sample_size= null_padding=
+                        ignore_errors= store_rejects= rejects_limit= max_errors= max_line_size= max_input= threads=
+                        range_size= pipeline= stats= to= table= $own" -- "$word")
                     ;;
             esac
             [[ $word == *=* && -n $name && $word != = ]] && COMPREPLY=("${COMPREPLY[@]/#/$name=}")

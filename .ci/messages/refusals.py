@@ -21,9 +21,9 @@ def option(word: str, rule: str, line: str) -> Case:
 
 
 COMMANDS = [
-    refused([], "NoCommand", 0, "a command is wanted: load, summary, convert, batch, sniff or make" + HELP),
-    refused(["frob"], "BadCommand", 0, "'frob' is no command: load, summary, convert, batch, sniff and make are" + HELP),
-    refused(["-v"], "BadCommand", 0, "'-v' is no command: load, summary, convert, batch, sniff and make are" + HELP),
+    refused([], "NoCommand", 0, "a command is wanted: load, summary, convert, rejects, batch, sniff or make" + HELP),
+    refused(["frob"], "BadCommand", 0, "'frob' is no command: load, summary, convert, rejects, batch, sniff and make are" + HELP),
+    refused(["-v"], "BadCommand", 0, "'-v' is no command: load, summary, convert, rejects, batch, sniff and make are" + HELP),
     refused(["load"], "NoFile", 1, "a file's name is wanted after load" + HELP),
     refused(["load", ""], "NoFile", 1, "a file's name is wanted after load" + HELP),
     refused(["batch"], "NoFile", 1, "names of files are wanted after batch" + HELP),
@@ -71,6 +71,14 @@ VALUES = [
     option("types=BIGINT, DATE", "BadValue", "' DATE' " + NO_TYPE),
     option("names=a,b,a", "BadValue", "'a' stands twice in names"),
     option("names=a,,b", "BadValue", "name 2 of names is empty"),
+    option("column_types=zip", "BadValue", "'zip' gives no type: column_types takes NAME:TYPE, cut at each comma"),
+    option("column_types=zip:TEXT", "BadValue", "'TEXT' " + NO_TYPE),
+    option("column_types=a:b:date", "BadValue", "'date' " + NO_TYPE),
+    option("column_types=:DATE", "BadValue", "name 1 of column_types is empty"),
+    option("column_types=zip:DATE,zip:DATE", "BadValue", "'zip' stands twice in column_types"),
+    option("nulls=", "BadValue", "nulls takes texts, cut at each comma: nullstr= gives the empty one alone"),
+    option("nulls=NA,,NA", "BadValue", "'NA' stands twice in nulls"),
+    option("max_errors=-1", "BadValue", "'max_errors=-1' is refused: max_errors takes a number from 0 to 4294967295"),
     option("to=db", "BadValue", "'to=db' is refused: to takes csv or sqlite"),
     option(
         "table=sqlite_x",
@@ -91,6 +99,18 @@ CONFLICTS = [
     conflict(
         ["all_varchar=true", "types=DATE"], 3, "all_varchar=true and types=DATE can't stand together: each gives all types"
     ),
+    conflict(
+        ["types=DATE", "column_types=zip:DATE"],
+        3,
+        "column_types=zip:DATE and types=DATE can't stand together: types gives all columns their types",
+    ),
+    conflict(
+        ["column_types=zip:DATE", "all_varchar=true"],
+        3,
+        "column_types=zip:DATE and all_varchar=true can't stand together: all columns are VARCHAR then",
+    ),
+    conflict(["nullstr=x", "nulls=NA,"], 3, "nulls=NA, and nullstr=x can't stand together: nulls takes all the texts"),
+    conflict(["max_errors=5"], 2, "max_errors=5 wants ignore_errors=true or store_rejects=true"),
     conflict(["names=a,b", "types=DATE"], 3, "names gives 2 and types 1: as many of each are wanted"),
     conflict(["quote=;", "delim=;"], 3, "delim=; and quote=; are the same character"),
     conflict(["escape=;", "delim=;"], 3, "delim=; and escape=; are the same character"),
@@ -106,6 +126,7 @@ CONFLICTS = [
     conflict(["table=orders"], 2, "table=orders wants to=sqlite", "convert"),
     conflict(["to=sqlite"], 2, "load writes no database: convert and batch do"),
     conflict(["to=csv"], 2, "load writes no CSV: convert does"),
+    conflict(["to=csv"], 2, "rejects writes no other format than its CSV", "rejects"),
     conflict(["to=csv"], 2, "batch writes no CSV: it prints its report, or a database with to=sqlite", "batch"),
 ]
 

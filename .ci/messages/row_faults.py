@@ -186,6 +186,7 @@ PASSED = [
     passed(["load", "ignore_errors=true"], "csvload: f.csv: 2 faults were passed over; store_rejects=true lists them\n"),
     passed(["summary", "ignore_errors=true"], "csvload: f.csv: 2 faults were passed over; store_rejects=true lists them\n"),
     passed(["load", "store_rejects=true"], "csvload: f.csv: 2 faults were passed over\n"),
+    passed(["rejects"], "csvload: f.csv: 2 faults were passed over\n"),
     passed(
         ["convert", "store_rejects=true"],
         "csvload: f.csv: 2 faults were passed over; load with store_rejects=true lists them\n",

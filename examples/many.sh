@@ -1,0 +1,102 @@
+#!/usr/bin/env bash
+# Converts all CSV files of a folder by csvload, several at a time, on this machine or on many, and gathers their rejects.
+#
+#     many.sh FOLDER INTO [NAME=VALUE]..
+#
+# Of each FOLDER/NAME.csv comes INTO/NAME.csv, or with to=sqlite INTO/NAME.db, read as `csvload batch` reads it: under what is
+# found in the first file, by the order of the names. Faulty rows are left out and stand in INTO/rejects.csv, the file's name
+# before each. A result stands in INTO only when it is whole: what failed is named at the end, with status 1, and the next call
+# does that alone. Further words are csvload's own options. Options of GNU parallel, as --jobs 4 or --sshlogin one,other, stand
+# in the variable PARALLEL; other machines must see both folders under the same names. CSVLOAD names the program.
+set -euo pipefail
+if [ $# -lt 2 ]; then
+    sed -n '2,11s/^# \{0,1\}//p' "$0" >&2
+    exit 1
+fi
+folder=$(cd "$1" && pwd)
+mkdir -p "$2/.rejects"
+into=$(cd "$2" && pwd)
+shift 2
+csvload=${CSVLOAD:-csvload}
+ending=csv
+
+# Whether a word gives an option of one of these names.
+gives() {
+    local word=$1 name
+    shift
+    for name in "$@"; do
+        if [[ $word == "$name="* ]]; then return 0; fi
+    done
+    return 1
+}
+
+reading=(ignore_errors=true) writing=()
+for word in "$@"; do
+    if gives "$word" to table; then writing+=("$word"); else reading+=("$word"); fi
+    if [ "$word" = to=sqlite ]; then ending=db; fi
+done
+
+files=("$folder"/*.csv)
+if [ ! -e "${files[0]}" ]; then
+    echo "${0##*/}: '$folder' has no file NAME.csv" >&2
+    exit 1
+fi
+
+# The words that fix what was found in the first file stand in one line, cut at bars, and shown with backslashes.
+found=()
+while IFS= read -r word; do
+    found+=("$(printf %b "$word")")
+done < <("$csvload" sniff "${files[0]}" explain=true "${reading[@]}" | LC_ALL=C awk '/^words\|/ {
+    for (rest = substr($0, 7) "|"; rest != ""; rest = substr(rest, length(part) + 1)) {
+        match(rest, /^(\\.|[^\\|])*/)
+        part = substr(rest, 1, RLENGTH)
+        if (substr(rest, RLENGTH + 1, 1) == "|") { word = part; gsub(/\\\|/, "|", word); print word; part = part "|" }
+    }
+}')
+if [ ${#found[@]} -eq 0 ]; then
+    echo "${0##*/}: '${files[0]}' can't be read" >&2
+    exit 1
+fi
+words=("${found[@]}")
+for word in "${reading[@]}"; do
+    if ! gives "$word" "${found[@]%%=*}"; then words+=("$word"); fi
+done
+
+todo=()
+for file in "${files[@]}"; do
+    result=$into/$(basename "$file" .csv).$ending
+    if [ ! -e "$result" ] || [ "$file" -nt "$result" ]; then
+        rm -f "$result"
+        todo+=("$file")
+    fi
+done
+
+# The rejects come first, so that a file whose result is there has them.
+program=$(printf %q "$csvload")
+reads=$(printf '%q ' "${words[@]}")
+writes=
+if [ ${#writing[@]} -gt 0 ]; then writes=$(printf '%q ' "${writing[@]}"); fi
+rejects=$(printf %q "$into/.rejects")/{/.}.csv
+result=$(printf %q "$into")/{/.}.$ending
+job="$program rejects {} $reads > $rejects && $program convert {} $reads $writes > $result.part && mv $result.part $result || { rm -f $result.part; false; }"
+if [ ${#todo[@]} -gt 0 ]; then
+    printf '%s\0' "${todo[@]}" | parallel --will-cite --null "$job" || true
+fi
+
+status=0
+: > "$into/rejects.csv.part"
+for file in "${files[@]}"; do
+    name=$(basename "$file")
+    if [ ! -e "$into/${name%.csv}.$ending" ]; then
+        echo "${0##*/}: '$file' failed" >&2
+        status=1
+        continue
+    fi
+    # A line end inside quotes ends no record: behind it the quotes so far are odd.
+    NAME=$name LC_ALL=C awk -v first="$([ -s "$into/rejects.csv.part" ] || echo yes)" '
+        BEGIN { name = ENVIRON["NAME"]; if (name ~ /[",\r\n]/) { gsub(/"/, "\"\"", name); name = "\"" name "\"" } }
+        NR == 1 { if (first) print "file," $0; next }
+        { print (open ? "" : name ",") $0; if (gsub(/"/, "&") % 2) open = !open }' "$into/.rejects/${name%.csv}.csv" >> "$into/rejects.csv.part"
+done
+mv "$into/rejects.csv.part" "$into/rejects.csv"
+exit $status
