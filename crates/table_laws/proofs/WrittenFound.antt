@@ -96,8 +96,8 @@ module _ (o : Options) (tys : List ColumnType) (r : ReadsWritten o tys) (some : 
         dialect = refl;
         names = names_are columns header (columns_are (score_rows d rows).mode) (headed columns);
         types =
-        none_given o.column_types (final_names o.names d columns (first_if header rows)) (final_types o d columns (behind_first_if header rows)) r.column_types
-        ∙ types_are columns (behind_first_if header rows);
+            none_given o.column_types (final_names o.names d columns (first_if header rows)) (final_types o d columns (behind_first_if header rows)) r.column_types
+            ∙ types_are columns (behind_first_if header rows);
         data_start = start_is header (headed columns);
       }
 
