@@ -20,7 +20,7 @@ use Rattle.value_types.proofs.WordDigits.{t_true}
 
 -- ---- what bytes are worth
 
-number-append : (xs ys : List ℕ) → number_l 256 (xs ++ ys) ≡ number_l 256 xs + 256 ^ length xs * number_l 256 ys
+pub number-append : (xs ys : List ℕ) → number_l 256 (xs ++ ys) ≡ number_l 256 xs + 256 ^ length xs * number_l 256 ys
 number-append [] ys = omega arith
 number-append (x ∷ xs) ys =
     ap (λ n. x + 256 * n) (number-append xs ys) ∙ longer x (number_l 256 xs) (256 ^ length xs) (number_l 256 ys)
@@ -48,7 +48,7 @@ moved n q m p whole some low =
 abbrev shift_tells : ℕ → Bool
 shift_tells c = eqb (256 ^ c * 2 ^ (8 * (8 - c))) (2 ^ 64) && (eqb (256 ^ (8 - c)) (2 ^ (8 * (8 - c))) && ltb 0 (2 ^ (8 * (8 - c))))
 
-shift_facts : (c : ℕ) → c ≤ 8 → (256 ^ c * 2 ^ (8 * (8 - c)) ≡ 2 ^ 64) × (256 ^ (8 - c) ≡ 2 ^ (8 * (8 - c))) × (0 < 2 ^ (8 * (8 - c)))
+pub shift_facts : (c : ℕ) → c ≤ 8 → (256 ^ c * 2 ^ (8 * (8 - c)) ≡ 2 ^ 64) × (256 ^ (8 - c) ≡ 2 ^ (8 * (8 - c))) × (0 < 2 ^ (8 * (8 - c)))
 shift_facts c le =
     let t : T (shift_tells c) = every_below shift_tells 9 tt c (omega arith) in
     let whole : T (eqb (256 ^ c * 2 ^ (8 * (8 - c))) (2 ^ 64)) = and_l (eqb (256 ^ c * 2 ^ (8 * (8 - c))) (2 ^ 64)) (eqb (256 ^ (8 - c)) (2 ^ (8 * (8 - c))) && ltb 0 (2 ^ (8 * (8 - c)))) t in

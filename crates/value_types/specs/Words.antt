@@ -1,5 +1,5 @@
 -- Words of eight bytes, of which the first counts least, and the digits in them.
-use Rattle.std.specs.Prelude.{◌≡◌, ◌<◌, ℕ, ◌+◌, ◌*◌, ◌^◌, ◌==◌, ◌++◌, if◌then◌else◌, List, [], ◌∷◌, length, map, nat_lt, Bool}
+use Rattle.std.specs.Prelude.{◌≡◌, ◌<◌, ◌≤◌, ℕ, ◌+◌, ◌*◌, ◌^◌, ◌==◌, ◌++◌, if◌then◌else◌, List, [], ◌∷◌, length, map, nat_lt, Bool}
 use Rattle.std.specs.Int.Bits.{bit_xor}
 use Rattle.std.specs.Simd.Lanes.{Each1, number_l}
 use Rattle.std.specs.Str.{byte}
@@ -15,6 +15,16 @@ IsWord bytes = (length bytes ≡ 8) × Each1 (λ b. b < 256) bytes
 -- a word whose first bytes are the text
 abbrev pub BeginsWord : List ℕ → ℕ → Type 0
 BeginsWord text word = (more : List ℕ) × IsWord (text ++ more) × (word ≡ word_of (text ++ more))
+
+-- a text of at most sixteen bytes, and the number that they make
+pub record IsBlock (text : List ℕ) (block : ℕ) : Type 0 where
+  pub short : length text ≤ 16
+  pub bytes : Each1 (λ b. b < 256) text
+  pub makes : block ≡ word_of text
+
+-- digits behind their sign
+abbrev pub signed : Bool → List ℕ → List ℕ
+signed minus digits = if minus then byte "-" ∷ digits else digits
 
 -- what a digit is worth; no other byte is worth less than ten
 abbrev pub worth : ℕ → ℕ
