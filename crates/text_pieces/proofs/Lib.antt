@@ -1,1 +1,3 @@
 mod Fronts
+pub mod Lanes
+pub mod RunLengths

@@ -1,8 +1,11 @@
 //! A text in pieces. Texts that workers made side by side are one text without a copy: its pieces are written one after
-//! another. Short pieces are joined as they come, so that a short text is written at once.
+//! another. Short pieces are joined as they come, so that a short text is written at once. What writers of texts share
+//! stands here too: runs of bytes, found by lanes and copied whole.
 //! It serves the crates above alone.
 #![tactic(auto)]
 
 mod pieces;
+mod runs;
 
 pub use pieces::Pieces;
+pub use runs::{append_run, run_behind};
