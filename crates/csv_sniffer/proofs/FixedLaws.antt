@@ -1,5 +1,5 @@
 -- With what was found given, the same is found.
-use Rattle.std.proofs.Common.{◌≡◌, ℕ, ◌<◌, ◌≤◌, Bool, cond, true, false, not, ◌&&◌, List, [], ◌∷◌, length, map, max, get_or, Option, Some, None, replicate, refl, sym, ap, subst, ◌∙◌, arith, inl, inr}
+use Rattle.std.proofs.Common.{◌≡◌, ℕ, ◌≤◌, Bool, cond, true, false, not, ◌&&◌, List, [], ◌∷◌, length, map, max, Some, None, replicate, refl, sym, ap, subst, ◌∙◌, arith, inl, inr}
 use Rattle.std.proofs.lemmas.Bool.{and_parts, cases_Bool, not-true}
 use Rattle.byte_classes.specs.Dialect.{Marks}
 use Rattle.value_types.specs.declared.types.ColumnType.{ColumnType}
@@ -7,48 +7,18 @@ use Rattle.value_types.specs.declared.types.ColumnType.TheVariants as types
 use Rattle.load_options.specs.declared.options.Options.{Options}
 use Rattle.load_options.specs.Accepted.{IsAccepted}
 use Rattle.load_options.specs.Texts.{is_empty}
-use Rattle.dialect_rank.specs.Candidates.{candidates_of, with_delim, no_quote, with_dialect}
-use Rattle.dialect_rank.specs.Rank.{best_place}
 use Rattle.dialect_rank.specs.Sampled.{Span, span_bytes, sampled_spans}
-use Rattle.dialect_rank.specs.declared.scores.Score.{Score}
-use Rattle.dialect_rank.specs.Score.{score_of, score_rows}
-use Rattle.dialect_rank.proofs.GivenDialect.{given_stands_alone}
-use Rattle.dialect_rank.proofs.RankLaws.{alone_is_best, best_is_first_highest}
-use Rattle.dialect_rank.proofs.SomeCandidate.{some_candidates}
-use Rattle.std.proofs.lemmas.List.{length-map}
+use Rattle.dialect_rank.specs.Score.{score_rows}
 use Rattle.csv_sniffer.specs.ColumnNames.{final_names}
 use Rattle.csv_sniffer.specs.ColumnTypes.{final_types, detected_types}
 use Rattle.csv_sniffer.specs.Fixed.{fixed, fixed_types, fixes_types}
 use Rattle.csv_sniffer.specs.LineEnd.{newline_of}
 use Rattle.csv_sniffer.specs.NamedTypes.{types_by_name}
-use Rattle.csv_sniffer.specs.Sniffed.{chosen_dialect, column_count, has_whole_row, has_header, first_if, behind_first_if, behind_row, sniffed_under, sniffed}
+use Rattle.csv_sniffer.specs.Sniffed.{column_count, has_whole_row, has_header, first_if, behind_first_if, behind_row, sniffed_under, sniffed}
 use Rattle.csv_sniffer.specs.declared.found.Sniffed.{Sniffed}
+use Rattle.csv_sniffer.proofs.FixedDialect.{chosen_again}
 use Rattle.csv_sniffer.proofs.CountLaws.{some_column, length-final_types}
 use Rattle.csv_sniffer.proofs.NamedTypes.{length-types_by_name, none_given}
-
-abbrev default : Marks
-default = with_delim None 44 no_quote
-
-module _ (o : Options) (sample : List ℕ) (whole : Bool) (accepted : IsAccepted o) where
-  abbrev score : Marks → Score
-  score d = score_of d sample whole o.sample_size
-
-  abbrev dialect : Marks
-  dialect = chosen_dialect o sample whole
-
-  -- the dialect is one of the candidates
-  chosen_within : best_place (map score (candidates_of o)) < length (candidates_of o)
-  chosen_within =
-      let many : length (map score (candidates_of o)) ≡ length (candidates_of o) = length-map (candidates_of o) score in
-      let some : 0 < length (candidates_of o) = some_candidates o accepted in
-      let law = best_is_first_highest (map score (candidates_of o)) (omega (arith, many, some)) in
-      omega (arith, law.within, many)
-
-  pub chosen_again : (p : Option Bool) (tys : List ColumnType) → chosen_dialect (record (with_dialect o dialect) { header = p; types = tys }) sample whole ≡ dialect
-  chosen_again p tys =
-      let one : candidates_of (with_dialect o dialect) ≡ dialect ∷ [] = given_stands_alone o (best_place (map score (candidates_of o))) default chosen_within in
-      ap (λ ds. get_or ds (best_place (map score ds)) default) one
-      ∙ ap (λ n. get_or (dialect ∷ []) n default) (alone_is_best (score dialect))
 
 -- ---- columns, header and types
 
@@ -79,6 +49,19 @@ count_by_names : (names : List (List ℕ)) (tys found : List ColumnType) (mode :
 count_by_names (n ∷ names) tys found mode is some = refl
 count_by_names [] tys found mode is some = ap (λ t. cond (not t) (length found) (max mode 1)) (is_some_type found some) ∙ is
 
+-- types that can be given
+pub types_given : (o : Options) (s : Sniffed) (d : Marks) (columns : ℕ) (names rows : List (List ℕ)) → fixes_types o s ≡ true → 1 ≤ length s.types →
+    types_by_name o.column_types names (final_types (fixed o s) d columns rows) ≡ s.types
+types_given o s d columns names rows fixes some =
+    let found : List ColumnType = detected_types o d columns rows in
+    let all : List ColumnType → List ColumnType = λ ts. cond o.all_varchar (replicate columns types.Varchar) (cond (is_empty ts) found ts) in
+    let free = and_parts _ _ (and_parts _ _ fixes).0 in
+    let listed : final_types (fixed o s) d columns rows ≡ s.types =
+    ap (λ t. all (cond t s.types o.types)) fixes
+    ∙ ap (λ v. cond v (replicate columns types.Varchar) (cond (is_empty s.types) found s.types)) (not-true o.all_varchar free.0)
+    ∙ ap (λ t. cond t found s.types) (is_some_type s.types some) in
+    ap (types_by_name o.column_types names) listed ∙ none_given o.column_types names s.types free.1
+
 module _ (o : Options) (s : Sniffed) (d : Marks) (mode : ℕ) (is_many : length s.types ≡ column_count o mode) where
   some : 1 ≤ length s.types
   some = subst (λ n. 1 ≤ n) (sym is_many) (some_column o mode)
@@ -95,15 +78,7 @@ module _ (o : Options) (s : Sniffed) (d : Marks) (mode : ℕ) (is_many : length 
   pub types_again : (names rows : List (List ℕ)) → s.types ≡ types_by_name o.column_types names (final_types o d (column_count o mode) rows) →
       types_by_name o.column_types names (final_types (fixed o s) d (column_count o mode) rows) ≡ s.types
   types_again names rows is = elim (cases_Bool (fixes_types o s)) [
-    | inl fixes ↦
-        let found : List ColumnType = detected_types o d (column_count o mode) rows in
-        let all : List ColumnType → List ColumnType = λ ts. cond o.all_varchar (replicate (column_count o mode) types.Varchar) (cond (is_empty ts) found ts) in
-        let free = and_parts _ _ (and_parts _ _ fixes).0 in
-        let listed : final_types (fixed o s) d (column_count o mode) rows ≡ s.types =
-        ap (λ t. all (cond t s.types o.types)) fixes
-        ∙ ap (λ v. cond v (replicate (column_count o mode) types.Varchar) (cond (is_empty s.types) found s.types)) (not-true o.all_varchar free.0)
-        ∙ ap (λ t. cond t found s.types) (is_some_type s.types some) in
-        ap (types_by_name o.column_types names) listed ∙ none_given o.column_types names s.types free.1
+    | inl fixes ↦ types_given o s d (column_count o mode) names rows fixes some
     | inr free ↦
         let found : List ColumnType = detected_types o d (column_count o mode) rows in
         ap (λ t. types_by_name o.column_types names (cond o.all_varchar (replicate (column_count o mode) types.Varchar) (cond (is_empty (cond t s.types o.types)) found (cond t s.types o.types)))) free
@@ -131,19 +106,19 @@ module _ (o : Options) (sample : List ℕ) (whole : Bool) (accepted : IsAccepted
   abbrev again : Options
   again = fixed o s
 
-  many : length s.types ≡ column_count o mode
-  many =
+  pub length-sniffed_types : length s.types ≡ column_count o mode
+  length-sniffed_types =
       length-types_by_name o.column_types s.names (final_types o d (column_count o mode) (behind_first_if s.header rows))
       ∙ length-final_types o mode d (behind_first_if s.header rows) accepted.counts_differ
 
   count_is : column_count again mode ≡ column_count o mode
-  count_is = count_again o s d mode many
+  count_is = count_again o s d mode length-sniffed_types
 
   header_is : (has_whole_row sample whole spans && has_header again d (column_count again mode) rows) ≡ s.header
   header_is = header_again o s d (column_count o mode) (column_count again mode) (has_whole_row sample whole spans) rows refl
 
   types_are : types_by_name o.column_types s.names (final_types again d (column_count o mode) (behind_first_if s.header rows)) ≡ s.types
-  types_are = types_again o s d mode many s.names (behind_first_if s.header rows) refl
+  types_are = types_again o s d mode length-sniffed_types s.names (behind_first_if s.header rows) refl
 
   under_again : sniffed_under again sample whole d spans ≡ record s { other_delim = None }
   under_again =
@@ -162,4 +137,4 @@ module _ (o : Options) (sample : List ℕ) (whole : Bool) (accepted : IsAccepted
 
   pub sniffed_again : sniffed again sample whole ≡ record s { other_delim = None }
   sniffed_again =
-      ap (λ e. sniffed_under again sample whole e (sampled_spans e sample whole o.sample_size)) (chosen_again o sample whole accepted (Some s.header) (fixed_types o s)) ∙ under_again
+      ap (λ e. sniffed_under again sample whole e (sampled_spans e sample whole o.sample_size)) (chosen_again o sample whole accepted (Some s.header) (fixed_types o s) sample whole) ∙ under_again

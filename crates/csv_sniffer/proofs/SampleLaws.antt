@@ -1,5 +1,5 @@
 -- The sample of bytes is no longer than they are, and no longer than its limit.
-use Rattle.std.proofs.Common.{◌≡◌, ℕ, suc, ◌-◌, ◌≤◌, Bool, true, false, cond, List, [], ◌∷◌, length, take, None, refl, ap, ◌∙◌, arith, length-take}
+use Rattle.std.proofs.Common.{◌≡◌, ℕ, suc, ◌-◌, ◌≤◌, Bool, true, false, cond, List, [], ◌∷◌, length, take, None, refl, ap, ◌∙◌, arith, length-take, leb-true}
 use Rattle.std.specs.Prelude.{slice_get}
 use Rattle.std.specs.List.{last_or}
 use Rattle.byte_classes.specs.Dialect.{is_byte}
@@ -41,3 +41,12 @@ sample-short bytes = let same : length bytes ≤ length bytes = omega arith in
 pub cut_sample-short : (bytes : List ℕ) → length (without_last_cr (take sample_limit bytes)) ≤ sample_limit
 cut_sample-short bytes =
     at_most (length (without_last_cr (take sample_limit bytes))) (length (take sample_limit bytes)) sample_limit (without_last_cr-short (take sample_limit bytes)) (short_take_at sample_limit bytes)
+
+limited_cond : (whole : Bool) (bytes cut : List ℕ) (n : ℕ) → (whole ≡ true → length bytes ≤ n) → length cut ≤ n → length (cond whole bytes cut) ≤ n
+limited_cond true bytes cut n fits short = fits refl
+limited_cond false bytes cut n fits short = short
+
+-- a sample is no longer than it may be
+pub sample-limited : (bytes : List ℕ) → length (sample_of bytes) ≤ sample_limit
+sample-limited bytes =
+    limited_cond (is_whole bytes) bytes (without_last_cr (take sample_limit bytes)) sample_limit (λ whole. leb-true (length bytes) sample_limit whole) (cut_sample-short bytes)

@@ -4,10 +4,8 @@ ghost use Rattle.csv_sniffer.specs.LaterStart.{start_under};
 
 use crate::Sniffed;
 use crate::first_row::{data_start, has_whole_row};
-use crate::kept_rows::leaves_values;
-use crate::sampled_rows::SampledRows;
+use crate::sampled_rows::sampled_under;
 use csv_source::NoMemory;
-use dialect_rank::sample_rows;
 use load_options::Options;
 use std::alloc::Global;
 
@@ -24,15 +22,7 @@ pub fn start_under(
     ensures ok { IfOk result (λ start. start ≡ start_under options.now found.now sample.now whole) }
     ensures within { IfOk result (λ start. start ≤ length sample.now) }
 {
-    let dialect = found.dialect;
-    let spans = sample_rows(alloc, &dialect, sample, whole, options.sample_size)?;
-    let leaves_values = leaves_values(&dialect);
-    let rows = SampledRows {
-        dialect,
-        sample,
-        spans,
-        leaves_values,
-    };
+    let rows = sampled_under(alloc, found.dialect, sample, whole, options.sample_size)?;
     let header = has_whole_row(&rows, whole) && found.header;
     Ok(data_start(&rows, header))
 }

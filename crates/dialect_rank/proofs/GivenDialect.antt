@@ -1,7 +1,6 @@
 -- A candidate whose bytes are given stands alone.
 use Rattle.std.proofs.Common.{◌≡◌, ℕ, cond, true, refl, sym, ap, ◌∙◌, List, [], ◌∷◌, get_or, map, Option, Some, None, subst}
-use Rattle.std.specs.Prelude.{All, flat_map, filter}
-use Rattle.std.proofs.lemmas.Bool.{and_parts}
+use Rattle.std.specs.Prelude.{All, filter}
 use Rattle.std.proofs.lemmas.List.Elements.{All-nil, All-append, All-map, All-filter, filter_passes}
 use Rattle.std.proofs.lemmas.List.Concat.{flat_map-cons}
 use Rattle.byte_classes.specs.Dialect.{Marks}
@@ -30,6 +29,12 @@ commented comment qs (d ∷ ds) =
     subst (All (λ (d : Marks). d.comment ≡ comment)) (sym (flat_map-cons (λ delim. map (with_delim comment delim) qs) d ds))
     (All-append (λ (d : Marks). d.comment ≡ comment) (map (with_delim comment d) qs) (combined comment qs ds)
     (All-map (λ (d : Marks). d.comment ≡ comment) (with_delim comment d) qs (λ j q lt. refl)) (commented comment qs ds))
+
+pub given_comment : (o : Options) → All (λ d. d.comment ≡ o.comment) (candidates_of o)
+given_comment o =
+    let all : List Marks = combined o.comment (quotings o.quote o.escape) (delims o.delim) in
+    first_ones-all (λ (d : Marks). d.comment ≡ o.comment) [] (filter is_dialect all)
+    (All-filter is_dialect (λ (d : Marks). d.comment ≡ o.comment) all (commented o.comment (quotings o.quote o.escape) (delims o.delim)))
 
 pub given_stands_alone : (o : Options) → All (λ d. candidates_of (with_dialect o d) ≡ d ∷ []) (candidates_of o)
 given_stands_alone o =

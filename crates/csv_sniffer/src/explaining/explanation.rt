@@ -8,12 +8,11 @@ use crate::explaining::gathering::{FileRows, column_samples};
 use crate::explaining::hints::{Hint, hints};
 use crate::explaining::whys::{Why, whys};
 use crate::found::Sniffed;
-use crate::kept_rows::leaves_values;
 use crate::sample::{SAMPLE_LIMIT, sample_of};
-use crate::sampled_rows::SampledRows;
+use crate::sampled_rows::sampled_under;
 use crate::start::sample_start;
 use csv_source::NoMemory;
-use dialect_rank::{Scored, in_rank_order, sample_rows, scored_candidates};
+use dialect_rank::{Scored, in_rank_order, scored_candidates};
 use load_options::Options;
 use load_options::limits::COLUMN_LIMIT;
 use std::alloc::Global;
@@ -101,15 +100,7 @@ fn explain_sample<'a>(
 {
     let (sample, whole) = (file.sample, file.whole);
     let scored = scored_candidates(alloc, options, sample, whole)?;
-    let spans = sample_rows(alloc, &sniffed.dialect, sample, whole, options.sample_size)?;
-    let dialect = sniffed.dialect;
-    let leaves_values = leaves_values(&dialect);
-    let rows = SampledRows {
-        dialect,
-        sample,
-        spans,
-        leaves_values,
-    };
+    let rows = sampled_under(alloc, sniffed.dialect, sample, whole, options.sample_size)?;
     let file = FileRows {
         alloc,
         options,
