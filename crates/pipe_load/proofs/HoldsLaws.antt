@@ -56,6 +56,7 @@ module _ (old new : Slots) (n : ℕ) where
 
   pub taken_held : (v : PassView) → new.slots.items ≡ set old.slots.items n None → vec_len new.slots ≡ vec_len old.slots → IsAllHeld n old v → IsAllHeld (n + 1) new v
   taken_held v is long h = record {
+    joined = h.joined;
     taken = λ k d lt from. others_stay is _ (omega (arith, from)) (h.taken k d lt (omega (arith, from)));
     behind = λ k from put lt. others_stay is k (omega (arith, from)) (h.behind k (omega (arith, from)) put (omega (arith, lt, long)));
   }
@@ -70,6 +71,7 @@ all_stay old new ws stays h k d lt = stays _ (h k d lt)
 
 pub held_stays : (from : ℕ) (old new : Slots) (v : PassView) → Stays old new → vec_len new.slots ≡ vec_len old.slots → IsAllHeld from old v → IsAllHeld from new v
 held_stays from old new v stays long h = record {
+  joined = h.joined;
   taken = λ k d lt low. stays _ (h.taken k d lt low);
   behind = λ k low put lt. stays k (h.behind k low put (omega (arith, lt, long)));
 }
@@ -87,11 +89,16 @@ pop_stays old new v w (inr h) = comes_stays old new h.0 h.2
 comes_held : (from : ℕ) (old new : Slots) (v : PassView) (x : Item) → ComesInHand old new x → vec_len new.slots ≡ vec_len old.slots → IsAllHeld from old v → IsAllHeld from new (after_take v x)
 comes_held from old new v (item.Window w) h long held =
     let still : IsAllHeld from new v = held_stays from old new v h.1 long held in record {
+      joined = still.joined;
       taken = all_more (λ (u : Window). from ≤ u.number → Holds new u.number) v.taken (v.taken ++ w ∷ []) w refl still.taken (λ _. h.0);
       behind = still.behind;
     }
 comes_held from old new v item.EndMark h long held =
-    let still : IsAllHeld from new v = held_stays from old new v (comes_stays old new item.EndMark h) long held in record { taken = still.taken; behind = still.behind }
+    let still : IsAllHeld from new v = held_stays from old new v (comes_stays old new item.EndMark h) long held in record {
+      joined = still.joined;
+      taken = still.taken;
+      behind = still.behind;
+    }
 
 pub pop_held : (from : ℕ) (old new : Slots) (v w : PassView) → Pops old new v w → vec_len new.slots ≡ vec_len old.slots → IsAllHeld from old v → IsAllHeld from new w
 pop_held from old new v w (inl h) long held = subst (IsAllHeld from new) (sym h.1) (held_stays from old new v (pop_stays old new v w (inl h)) long held)
@@ -100,9 +107,10 @@ pop_held from old new v w (inr h) long held = subst (IsAllHeld from new) (sym h.
 pub none_held : (slots : Slots) (ws : List Window) → ws ≡ [] → HoldsAll slots ws
 none_held slots ws none = subst (HoldsAll slots) (sym none) (All-nil _)
 
--- where all windows stand that the pass took and that wait, nothing is lost
-pub all_held : (put waiting : List Window) (slots : Slots) (v : PassView) → AreNumbered (put ++ waiting) → v.put ≡ put → vec_len slots.slots ≡ length (put ++ waiting) → HoldsAll slots v.taken → HoldsAll slots waiting → IsAllHeld 0 slots v
-all_held put waiting slots v numbered is long took waits = record {
+-- where no stage is apart, and all windows stand that the pass took and that wait, nothing is lost
+pub all_held : (put waiting : List Window) (slots : Slots) (v : PassView) → AreNumbered (put ++ waiting) → v.put ≡ put → v.stages ≡ 0 → vec_len slots.slots ≡ length (put ++ waiting) → HoldsAll slots v.taken → HoldsAll slots waiting → IsAllHeld 0 slots v
+all_held put waiting slots v numbered is joined long took waits = record {
+  joined = joined;
   taken = λ k d lt _. took k d lt;
   behind = λ k _ low lt.
       let lengths : length v.put ≡ length put = ap length is in

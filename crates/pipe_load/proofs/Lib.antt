@@ -1,4 +1,6 @@
+pub mod Begins
 pub mod Keeps
+pub mod Learned
 pub mod Lists
 pub mod ReadingLaws
 pub mod CuttingLaws
@@ -11,3 +13,4 @@ pub mod SlotsLaws
 pub mod AnswerLaws
 pub mod LoadLaws
 pub mod HoldsLaws
+pub mod MissingLaws

@@ -1,6 +1,7 @@
 -- Lists of windows and of what passes know.
-use Rattle.std.proofs.Common.{◌≡◌, ℕ, zero, suc, ◌+◌, ◌<◌, ◌≤◌, ◌⊎◌, inl, inr, eqb, cond, List, [], ◌∷◌, ◌++◌, length, drop, set, sum_by, All, sym, refl, ap, ⊎_elim, arith}
+use Rattle.std.proofs.Common.{◌≡◌, ℕ, zero, suc, ◌+◌, ◌<◌, ◌≤◌, ◌⊎◌, inl, inr, eqb, cond, List, [], ◌∷◌, ◌++◌, length, drop, get_or, set, sum_by, All, sym, refl, ap, ⊎_elim, arith}
 use Rattle.std.proofs.lemmas.List.Sums.{sum_by-cons, sum_by-append}
+use Rattle.std.proofs.lemmas.Bool.{cases_eq}
 use Rattle.std.proofs.lemmas.Bool.Decides.{nat_tests}
 use mathlib.Core.Option.{some, some-injective, some-ne-none}
 use lib.ListN.{get_elem?}
@@ -51,6 +52,28 @@ pub sum_set : (f : PassView → ℕ) (l : List PassView) (i : ℕ) (v w : PassVi
 sum_set f [] i v w e = absurd (some-ne-none v (sym e))
 sum_set f (x ∷ xs) zero v w e = let same : f x ≡ f v = ap f (some-injective x v e) in omega (arith, sum_by-cons f x xs, sum_by-cons f w xs)
 sum_set f (x ∷ xs) (suc i) v w e = let r = sum_set f xs i v w e in omega (arith, sum_by-cons f x xs, sum_by-cons f x (set xs i w))
+
+-- an entry's share of a sum, and a sum without one
+pub sum_covers : (f : PassView → ℕ) (l : List PassView) (i : ℕ) (v : PassView) → get_elem? l i ≡ some v → f v ≤ sum_by f l
+sum_covers f [] i v e = absurd (some-ne-none v (sym e))
+sum_covers f (x ∷ xs) zero v e = let same : f x ≡ f v = ap f (some-injective x v e) in omega (arith, same, sum_by-cons f x xs)
+sum_covers f (x ∷ xs) (suc i) v e = let r = sum_covers f xs i v e in omega (arith, r, sum_by-cons f x xs)
+
+pub sum_none : (f : PassView → ℕ) (l : List PassView) → ((j : ℕ) (u : PassView) → get_elem? l j ≡ some u → f u ≡ 0) → sum_by f l ≡ 0
+sum_none f [] none = grind arith
+sum_none f (x ∷ xs) none =
+    let first : f x ≡ 0 = none zero x refl in
+    let rest : sum_by f xs ≡ 0 = sum_none f xs (λ j u e. none (suc j) u e) in omega (arith, first, rest, sum_by-cons f x xs)
+
+-- a window that is counted in a list stands there
+pub stands : (k : ℕ) (ws : List Window) → 0 < times k ws → (i : ℕ) × (i < length ws) × ((d : Window) → (get_or ws i d).number ≡ k)
+stands k [] there = absurd (let never : ⊥ = grind arith in never)
+stands k (w ∷ ws) there = elim (cases_eq w.number k) [
+  | inl here ↦ (zero, omega arith, λ d. here)
+  | inr apart ↦
+      let rest : 0 < times k ws = grind (arith, nat_tests, sum_by-cons (λ (u : Window). cond {A = ℕ} (eqb u.number k) 1 0) w ws) in
+      let h = stands k ws rest in let under = h.1 in (suc h.0, omega (arith, under), h.2)
+]
 
 -- facts of all entries
 pub all_up : {A : Type 0} (P Q : A → Type 0) (xs : List A) → ((x : A) → P x → Q x) → All P xs → All Q xs

@@ -19,11 +19,11 @@ use Rattle.reject_book.specs.declared.reject.Reject.{Reject}
 use Rattle.pipe_load.specs.declared.joining.Counted.{Counted}
 use Rattle.pipe_load.specs.declared.layout.Layout.{Layout}
 use Rattle.pipe_load.specs.declared.window.Window.{Window}
-use Rattle.pipe_load.specs.Joining.{AddsRanges, IsJoinedTo, stretch_len}
+use Rattle.pipe_load.specs.Joining.{AddsRanges, IsJoinedTo}
 use Rattle.pipe_load.specs.Loading.{data_read}
 use Rattle.window_load.specs.DataRead.{IsDataRead}
 use Rattle.range_scan.proofs.RangeSteps.{begun, all_ranges}
-use Rattle.pipe_load.specs.Layout.{IsLayout, stride, want, window_start, window_of, windows_of, stretch_of, layout_of}
+use Rattle.pipe_load.specs.Layout.{IsLayout, stride, want, window_start, window_of, windows_of, stretch_of, stretch_len, layout_of}
 use Rattle.pipe_load.specs.PassViews.{IsOneOf}
 use Rattle.pipe_load.proofs.CuttingLaws.{some_stride}
 use Rattle.pipe_load.proofs.WindowRanges.{lead_at}

@@ -11,12 +11,13 @@ use Rattle.range_guess.specs.Stretch.{span_of}
 use Rattle.range_scan.specs.Scanned.{Scanned, scanned}
 use Rattle.crossbeam_queue.specs.Passes.{view}
 use Rattle.pipe_load.specs.declared.layout.Layout.{Layout}
+use Rattle.pipe_load.specs.declared.pass_view.PassView.{PassView}
 use Rattle.pipe_load.specs.declared.scanner.Kept.{Kept}
 use Rattle.pipe_load.specs.declared.stage.Stage.{Stage}
 use Rattle.pipe_load.specs.declared.window.Window.{Window}
-use Rattle.pipe_load.specs.Layout.{base_of, stretch_of}
-use Rattle.pipe_load.specs.PassViews.{stage_view}
-use Rattle.pipe_load.specs.Scanning.{opening_of, guessed_part, guessed_parts, HasParts, HasScanned}
+use Rattle.pipe_load.specs.Layout.{base_of, stretch_of, stretch_len}
+use Rattle.pipe_load.specs.PassViews.{stage_view, with_stages}
+use Rattle.pipe_load.specs.Scanning.{opening_of, guessed_part, guessed_parts, HasParts, IsScanned, HasScanned}
 use Rattle.pipe_load.proofs.Lists.{just}
 
 module _ (context : Context) (l : Layout) (w : Window) where
@@ -30,9 +31,15 @@ module _ (context : Context) (l : Layout) (w : Window) where
       let is : part ≡ guessed_part context l w n = part_is ∙ (λ i. scanned context (bytes_are i) (base_is i) (at i) (in_state i)) in
       new_is ∙ (λ i. parts_are i ++ is i ∷ []) ∙ sym (map-range_with_len_more (guessed_part context l w) 0 n n (let e : 0 + n ≡ n = omega arith in e))
 
-  -- so many parts as there are
-  pub all_parts : (n : ℕ) (parts : List Scanned) → parts ≡ guessed_parts context l w n → parts ≡ guessed_parts context l w (length parts)
-  all_parts n parts is = is ∙ ap (guessed_parts context l w) (sym (ap length is ∙ length-map-range_with_len (guessed_part context l w) 0 n))
+  pub so_many_parts : (m n : ℕ) (parts : List Scanned) → parts ≡ guessed_parts context l w m → m ≡ n → parts ≡ guessed_parts context l w n
+  so_many_parts m n parts is same = is ∙ ap (guessed_parts context l w) same
+
+-- the parts of all ranges are those of the first ones
+pub scanned_parts : (context : Context) (l : Layout) (kept : Kept) → IsScanned context l kept → HasParts context l kept
+scanned_parts context l kept h =
+    let count : ℕ = stretch_len l kept.window in
+    let long : length kept.parts.items ≡ count = ap length h.is ∙ length-map-range_with_len (guessed_part context l kept.window) 0 count in
+    record { is = so_many_parts context l kept.window count (length kept.parts.items) kept.parts.items h.is (sym long) }
 
 -- one more entry of which a fact is known
 pub all_more : {A : Type 0} (P : A → Type 0) (xs ys : List A) (x : A) → ys ≡ xs ++ x ∷ [] → All P xs → P x → All P ys
@@ -42,15 +49,19 @@ all_more P xs ys x e h p = subst (All P) (sym e) (All-append P xs (x ∷ []) h (
 pub fresh_stage : (context : Context) (l : Layout) (stage : Stage) → stage.kept.items ≡ [] → view stage.pass ≡ stage_view → HasScanned context l stage
 fresh_stage context l stage none is = record {
   all = ap (map (λ (k : Kept). k.window)) none ∙ sym (ap (λ v. v.taken) is);
-  parts = subst (All (HasParts context l)) (sym none) (All-nil _);
+  parts = subst (All (IsScanned context l)) (sym none) (All-nil _);
 }
+
+-- more stages are split off
+pub more_stages : (v : PassView) (m n : ℕ) → with_stages (with_stages v m) n ≡ with_stages v (m + n)
+more_stages v m n = let count : v.stages + m + n ≡ v.stages + (m + n) = omega arith in ap (λ k. record v { stages = k }) count
 
 -- a stage that took one more window and keeps it
 pub kept_more : (context : Context) (l : Layout) (old new : Stage) (kept : Kept) → HasScanned context l old → new.kept.items ≡ old.kept.items ++ kept ∷ [] →
-    (view new.pass).taken ≡ (view old.pass).taken ++ kept.window ∷ [] → HasParts context l kept → HasScanned context l new
+    (view new.pass).taken ≡ (view old.pass).taken ++ kept.window ∷ [] → IsScanned context l kept → HasScanned context l new
 kept_more context l old new kept h is taken parts = record {
   all =
       ap (map (λ (k : Kept). k.window)) is ∙ map-append (λ (k : Kept). k.window) old.kept.items (kept ∷ [])
       ∙ ap (λ ws. ws ++ kept.window ∷ []) h.all ∙ sym taken;
-  parts = all_more (HasParts context l) old.kept.items new.kept.items kept is h.parts parts;
+  parts = all_more (IsScanned context l) old.kept.items new.kept.items kept is h.parts parts;
 }

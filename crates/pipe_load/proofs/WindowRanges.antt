@@ -24,8 +24,8 @@ use Rattle.range_scan.proofs.JudgeLaws.{first_bytes_decide}
 use Rattle.pipe_load.specs.declared.joining.Counted.{Counted}
 use Rattle.pipe_load.specs.declared.layout.Layout.{Layout}
 use Rattle.pipe_load.specs.declared.window.Window.{Window}
-use Rattle.pipe_load.specs.Joining.{AddsRange, AddsRanges, IsJoinedTo, stretch_len}
-use Rattle.pipe_load.specs.Layout.{IsLayout, stride, want, window_start, window_of, base_of, stretch_of}
+use Rattle.pipe_load.specs.Joining.{AddsRange, AddsRanges, IsJoinedTo}
+use Rattle.pipe_load.specs.Layout.{IsLayout, stride, want, window_start, window_of, base_of, stretch_of, stretch_len}
 use Rattle.pipe_load.proofs.CuttingLaws.{drop-drop, some_stride}
 use Rattle.pipe_load.proofs.JoiningLaws.{next_range}
 use Rattle.pipe_load.proofs.WindowParts.{begins, ends, ordered, within, reaches, in_text}

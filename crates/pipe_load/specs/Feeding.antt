@@ -1,10 +1,11 @@
 -- What the caller has of the queue while it reads.
-use Rattle.std.specs.Prelude.{◌≡◌, ℕ, ◌+◌, ◌<◌, ◌⊎◌, true, List, [], ◌++◌, length, slice_index_or}
+use Rattle.std.specs.Prelude.{◌≡◌, ℕ, ◌+◌, ◌<◌, ◌⊎◌, List, [], ◌++◌, length, slice_index_or}
 use Rattle.crossbeam_queue.specs.Passes.{Pass, view, IsPassOf}
 use Rattle.pipe_load.specs.declared.feeding.Feed.{Feed}
 use Rattle.pipe_load.specs.declared.window.Window.{Window}
 use Rattle.pipe_load.specs.declared.windows.Windows.{Windows}
 use Rattle.pipe_load.specs.declared.pass_view.PassView.{PassView}
+use Rattle.pipe_load.specs.declared.pass_view.Role.TheVariants as roles
 use Rattle.pipe_load.specs.declared.window.Item.{Item}
 use Rattle.pipe_load.specs.Rule.{WasFull}
 
@@ -12,19 +13,20 @@ use Rattle.pipe_load.specs.Rule.{WasFull}
 abbrev pub AreNumbered : List Window → Type 0
 AreNumbered ws = (k : ℕ) (d : Window) → k < length ws → (slice_index_or ws k d).number ≡ k
 
--- the caller's pass, which took nothing
-pub record IsCallers (windows : Windows) (pass : Pass Item PassView) : Type 0 where
+-- the caller's pass, which took nothing, and off which so many stages are split
+pub record IsCallers (windows : Windows) (count : ℕ) (pass : Pass Item PassView) : Type 0 where
   pub of : IsPassOf windows.line pass
-  pub caller : (view pass).is_caller ≡ true
+  pub caller : (view pass).role ≡ roles.Caller
   pub taken : (view pass).taken ≡ []
+  pub stages : (view pass).stages ≡ count
 
 -- the windows that were put and those that wait
 abbrev pub made_of : Feed → List Window
 made_of feed = (view feed.pass).put ++ feed.waiting.items
 
 -- no end mark is put, and the windows that were put and those that wait are numbered
-pub record IsFeed (windows : Windows) (feed : Feed) : Type 0 where
-  pub pass : IsCallers windows feed.pass
+pub record IsFeed (windows : Windows) (stages : ℕ) (feed : Feed) : Type 0 where
+  pub pass : IsCallers windows stages feed.pass
   pub puts : (view feed.pass).puts ≡ length (view feed.pass).put
   pub numbered : AreNumbered (made_of feed)
 

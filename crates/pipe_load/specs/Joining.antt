@@ -3,14 +3,13 @@ use Rattle.std.specs.Prelude.{◌≡◌, ℕ, ◌+◌, ◌-◌, ◌*◌, ◌<◌
 use Rattle.std.specs.List.{range_with_len}
 use Rattle.range_guess.specs.declared.span.Span.{Span}
 use Rattle.range_guess.specs.Span.{opening_in}
-use Rattle.range_guess.specs.Stretch.{stretch_count}
 use Rattle.range_scan.specs.declared.context.Context.{Context}
 use Rattle.range_scan.specs.Ranges.{AddsSpan, IsJoinedTo as AreJoined, ranges_end}
 use Rattle.range_scan.specs.Scanned.{Scanned}
 use Rattle.pipe_load.specs.declared.joining.Counted.{Counted}
 use Rattle.pipe_load.specs.declared.layout.Layout.{Layout}
 use Rattle.pipe_load.specs.declared.window.Window.{Window}
-use Rattle.pipe_load.specs.Layout.{stretch_of, window_of}
+use Rattle.pipe_load.specs.Layout.{window_of}
 use Rattle.pipe_load.specs.Scanning.{guessed_part}
 
 -- ---- one range
@@ -28,9 +27,6 @@ pub record IsJoinedTo (context : Context) (text : List ℕ) (base size j : ℕ) 
   pub bytes : new.length ≡ ranges_end text size j
 
 -- ---- windows
-
-abbrev pub stretch_len : Layout → Window → ℕ
-stretch_len l w = stretch_count (stretch_of l w)
 
 -- n ranges of a window are joined: of window k of any data whose first k windows' ranges were joined, these and n more are joined
 pub record AddsRanges (context : Context) (l : Layout) (w : Window) (n : ℕ) (old new : Counted) : Type 0 where

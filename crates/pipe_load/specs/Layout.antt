@@ -4,7 +4,7 @@ use Rattle.std.specs.List.{range_with_len}
 use Rattle.load_options.specs.declared.limits.TheConstants.{RANGE_SIZE}
 use Rattle.range_guess.specs.declared.stretch.Stretch.{Stretch}
 use Rattle.range_guess.specs.Cut.{range_count}
-use Rattle.range_guess.specs.Stretch.{LiesIn}
+use Rattle.range_guess.specs.Stretch.{LiesIn, stretch_count}
 use Rattle.pipe_load.specs.declared.layout.Layout.{Layout}
 use Rattle.pipe_load.specs.declared.layout.TheConstants.{LEAST_RANGES}
 use Rattle.pipe_load.specs.declared.window.Window.{Window}
@@ -63,6 +63,10 @@ stretch_of l w = let from = min (length w.bytes) (min w.number 1) in record {
   to = from + min (stride l) (length w.bytes - from);
   range_size = l.range_size;
 }
+
+-- how many ranges that are
+abbrev pub stretch_len : Layout → Window → ℕ
+stretch_len l w = stretch_count (stretch_of l w)
 
 -- a stretch lies in the bytes of a window, whose first stands at a place of the input, and its numbers are small
 pub record IsStretchOf (base : ℕ) (s : Stretch) (bytes : List ℕ) : Type 0 where

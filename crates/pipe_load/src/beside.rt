@@ -1,13 +1,14 @@
 //! The reading of the data beside the scans of the stages.
-ghost use Rattle.std.specs.Prelude.{◌≡◌, ◌+◌, ◌≤◌, ◌<◌, ◌^◌, [], ℕ, List, false, All, OnOk, Err, length, slice_index_or};
+ghost use Rattle.std.specs.Prelude.{◌≡◌, ◌+◌, ◌≤◌, ◌<◌, ◌^◌, [], ℕ, List, false, All, OnOk, Err, length, vec_len, slice_index_or};
 ghost use Rattle.std.specs.Io.KnownBytes.{Consumes};
+ghost use Rattle.crossbeam_queue.specs.Passes.{view};
 ghost use Rattle.csv_source.specs.Causes.{Rose};
 ghost use Rattle.window_load.specs.DataRead.{Comes};
 ghost use Rattle.window_load.specs.declared.stop.LoadStop.TheVariants as stops;
 ghost use Rattle.pipe_load.specs.Feeding.{IsCallers, IsFeed, IsFed, made_of};
 ghost use Rattle.pipe_load.specs.Layout.{IsLayout};
 ghost use Rattle.pipe_load.specs.Reading.{HasCutAll, IsStarted};
-ghost use Rattle.pipe_load.specs.Scanning.{IsStage, HasScanned};
+ghost use Rattle.pipe_load.specs.Scanning.{IsStage, HasScanned, HasEnded};
 
 use crate::feeding::Feed;
 use crate::reader::Reader;
@@ -34,7 +35,7 @@ fn read_beside_stages<R: Threads + Wait + Sync, S: Source + Send, G: Gate>(
     feed: &mut Feed,
     stages: &mut [Stage],
 ) -> Result<(), LoadStop>
-    requires feed { IsFeed windows.now feed.old }
+    requires feed { IsFeed windows.now (view feed.old.pass).stages feed.old }
     requires none { made_of feed.old ≡ [] }
     requires layout { IsLayout reader.old.layout }
     requires start { IsStarted reader.old.head.now reader.old.layout reader.old.room reader.old }
@@ -46,7 +47,9 @@ fn read_beside_stages<R: Threads + Wait + Sync, S: Source + Send, G: Gate>(
     requires all { All (HasScanned scanner.now.ranges.context.now scanner.now.layout) stages.old }
     ensures stages { All (IsStage windows.now) stages.new }
     ensures all { All (λ stage. stage.short ≡ false → HasScanned scanner.now.ranges.context.now scanner.now.layout stage) stages.new }
-    ensures pass { IsCallers windows.now feed.new.pass }
+    ensures ended { (k : ℕ) (d : _) → k < length stages.old → (slice_index_or stages.new k d).short ≡ false
+        → HasEnded (slice_index_or stages.old k d) (slice_index_or stages.new k d) }
+    ensures pass { IsCallers windows.now (view feed.old.pass).stages feed.new.pass }
     // Whatever the answer, all windows were put and all end marks, or the queue was full at a moment.
     ensures fed { IsFed (length stages.old) feed.new }
     // Whatever the answer, bytes came from the source, and the rest is left.
@@ -67,7 +70,9 @@ fn read_beside_stages<R: Threads + Wait + Sync, S: Source + Send, G: Gate>(
             requires { (0 < length stages.now) × All (IsStage windows.now) stages.now × All (HasScanned scanner.now.ranges.context.now scanner.now.layout) stages.now }
             ensures { ((k : ℕ) (d : _) → k < length stages.entry.now → IsStage windows.entry.now (slice_index_or stages.exit.now k d))
                 × ((k : ℕ) (d : _) → k < length stages.entry.now → (slice_index_or stages.exit.now k d).short ≡ false
-                → HasScanned scanner.entry.now.ranges.context.now scanner.entry.now.layout (slice_index_or stages.exit.now k d)) }
+                → HasScanned scanner.entry.now.ranges.context.now scanner.entry.now.layout (slice_index_or stages.exit.now k d))
+                × ((k : ℕ) (d : _) → k < length stages.entry.now → (slice_index_or stages.exit.now k d).short ≡ false
+                → HasEnded (slice_index_or stages.entry.now k d) (slice_index_or stages.exit.now k d)) }
         { work_all(rt, windows, scanner, stages) },
         &mut || { feed.put_data(rt, alloc, windows, reader, source, count) },
     );
@@ -85,7 +90,7 @@ pub fn read_beside<R: Threads + Wait + Sync, S: Source + Send, G: Gate>(
     feed: &mut Feed,
     stages: &mut Vec<Stage>,
 ) -> Result<(), LoadStop>
-    requires feed { IsFeed windows.now feed.old }
+    requires feed { IsFeed windows.now (view feed.old.pass).stages feed.old }
     requires none { made_of feed.old ≡ [] }
     requires layout { IsLayout reader.old.layout }
     requires start { IsStarted reader.old.head.now reader.old.layout reader.old.room reader.old }
@@ -95,9 +100,12 @@ pub fn read_beside<R: Threads + Wait + Sync, S: Source + Send, G: Gate>(
     requires small { length reader.old.head.now + reader.old.room < 2 ^ 34 }
     requires stages { All (IsStage windows.now) stages.old.items }
     requires all { All (HasScanned scanner.now.ranges.context.now scanner.now.layout) stages.old.items }
+    ensures same { vec_len stages.new ≡ vec_len stages.old }
     ensures stages { All (IsStage windows.now) stages.new.items }
     ensures all { All (λ stage. stage.short ≡ false → HasScanned scanner.now.ranges.context.now scanner.now.layout stage) stages.new.items }
-    ensures pass { IsCallers windows.now feed.new.pass }
+    ensures ended { (k : ℕ) (d : _) → k < length stages.old.items → (slice_index_or stages.new.items k d).short ≡ false
+        → HasEnded (slice_index_or stages.old.items k d) (slice_index_or stages.new.items k d) }
+    ensures pass { IsCallers windows.now (view feed.old.pass).stages feed.new.pass }
     // Whatever the answer, all windows were put and all end marks, or the queue was full at a moment.
     ensures fed { IsFed (length stages.old.items) feed.new }
     // Whatever the answer, bytes came from the source, and the rest is left.

@@ -30,9 +30,9 @@ pub struct Feed {
 impl Feed {
     /// Puts the windows that wait, the oldest first, while there is room. Whether none waits any more.
     fn put_waiting<R: Wait>(&mut self, rt: &R, windows: &Windows) -> bool
-        requires feed { IsFeed windows.now self.old }
+        requires feed { IsFeed windows.now (view self.old.pass).stages self.old }
         requires few { length (made_of self.old) < 2 ^ 39 }
-        ensures feed { IsFeed windows.now self.new }
+        ensures feed { IsFeed windows.now (view self.old.pass).stages self.new }
         ensures same { made_of self.new ≡ made_of self.old }
         ensures all { IsTrue result → self.new.waiting.items ≡ [] }
         ensures cause { IsFalse result → WasFull (view self.new.pass) }
@@ -48,10 +48,10 @@ impl Feed {
 
     /// Puts the next window, behind those that wait. Without room for it in the queue it waits.
     fn keep<R: Wait>(&mut self, rt: &R, windows: &Windows, window: Window) -> Result<(), NoMemory>
-        requires feed { IsFeed windows.now self.old }
+        requires feed { IsFeed windows.now (view self.old.pass).stages self.old }
         requires few { length (made_of self.old) < 2 ^ 38 }
         requires next { window.number ≡ length (made_of self.old) }
-        ensures feed { IsFeed windows.now self.new }
+        ensures feed { IsFeed windows.now (view self.old.pass).stages self.new }
         ensures ok { OnOk result (made_of self.new ≡ made_of self.old ++ window ∷ []) }
         ensures err { OnErr result (made_of self.new ≡ made_of self.old) }
         ensures cause { OnOk result (WaitsForRoom self.new) }
@@ -70,13 +70,13 @@ impl Feed {
         reader: &mut Reader,
         source: &mut S,
     ) -> Result<(), LoadStop>
-        requires feed { IsFeed windows.now self.old }
+        requires feed { IsFeed windows.now (view self.old.pass).stages self.old }
         requires none { made_of self.old ≡ [] }
         requires layout { IsLayout reader.old.layout }
         requires start { IsStarted reader.old.head.now reader.old.layout reader.old.room reader.old }
         requires room { 0 < reader.old.room }
         requires small { length reader.old.head.now + reader.old.room < 2 ^ 34 }
-        ensures feed { IsFeed windows.now self.new }
+        ensures feed { IsFeed windows.now (view self.old.pass).stages self.new }
         ensures few { length (made_of self.new) < 2 ^ 39 }
         // Whatever the answer, bytes came from the source, and the rest is left.
         ensures moved { Comes (S.left source.old) (S.left source.new) }
@@ -102,9 +102,9 @@ impl Feed {
     /// Puts the windows that wait, as room comes. Whether none waits any more: it gives up where there is no room, and no
     /// stage is at work that could make some. That the waiting ends isn't proved.
     fn put_rest<R: Wait>(&mut self, rt: &R, windows: &Windows) -> bool
-        requires feed { IsFeed windows.now self.old }
+        requires feed { IsFeed windows.now (view self.old.pass).stages self.old }
         requires few { length (made_of self.old) < 2 ^ 39 }
-        ensures feed { IsFeed windows.now self.new }
+        ensures feed { IsFeed windows.now (view self.old.pass).stages self.new }
         ensures same { made_of self.new ≡ made_of self.old }
         ensures all { IsTrue result → self.new.waiting.items ≡ [] }
         ensures cause { IsFalse result → WasFull (view self.new.pass) }
@@ -123,9 +123,9 @@ impl Feed {
 
     /// Puts an end mark, as room comes. Whether it was put: it gives up as `put_rest` does.
     fn put_mark<R: Wait>(&mut self, rt: &R, windows: &Windows) -> bool
-        requires pass { IsCallers windows.now self.old.pass }
+        requires pass { IsCallers windows.now (view self.old.pass).stages self.old.pass }
         requires few { (view self.old.pass).puts < 2 ^ 40 }
-        ensures pass { IsCallers windows.now self.new.pass }
+        ensures pass { IsCallers windows.now (view self.old.pass).stages self.new.pass }
         ensures waiting { self.new.waiting ≡ self.old.waiting }
         ensures put { IsTrue result → view self.new.pass ≡ with_marks (view self.old.pass) 1 }
         ensures none { IsFalse result → view self.new.pass ≡ view self.old.pass }
@@ -145,9 +145,9 @@ impl Feed {
 
     /// Puts end marks for so many stages, as room comes. How many were put.
     fn put_marks<R: Wait>(&mut self, rt: &R, windows: &Windows, stages: usize) -> usize
-        requires pass { IsCallers windows.now self.old.pass }
+        requires pass { IsCallers windows.now (view self.old.pass).stages self.old.pass }
         requires few { (view self.old.pass).puts + stages < 2 ^ 40 }
-        ensures pass { IsCallers windows.now self.new.pass }
+        ensures pass { IsCallers windows.now (view self.old.pass).stages self.new.pass }
         ensures waiting { self.new.waiting ≡ self.old.waiting }
         ensures put { view self.new.pass ≡ with_marks (view self.old.pass) result }
         ensures most { result ≤ stages }
@@ -163,10 +163,10 @@ impl Feed {
 
     /// Puts the windows that wait, and behind them end marks for so many stages, as room comes.
     fn put_to_end<R: Wait>(&mut self, rt: &R, windows: &Windows, stages: usize)
-        requires feed { IsFeed windows.now self.old }
+        requires feed { IsFeed windows.now (view self.old.pass).stages self.old }
         requires few { length (made_of self.old) < 2 ^ 39 }
         requires stages { stages ≤ 64 }
-        ensures pass { IsCallers windows.now self.new.pass }
+        ensures pass { IsCallers windows.now (view self.old.pass).stages self.new.pass }
         ensures same { made_of self.new ≡ made_of self.old }
         ensures fed { IsFed stages self.new }
     {
@@ -187,14 +187,14 @@ impl Feed {
         source: &mut S,
         stages: usize,
     ) -> Result<(), LoadStop>
-        requires feed { IsFeed windows.now self.old }
+        requires feed { IsFeed windows.now (view self.old.pass).stages self.old }
         requires none { made_of self.old ≡ [] }
         requires layout { IsLayout reader.old.layout }
         requires start { IsStarted reader.old.head.now reader.old.layout reader.old.room reader.old }
         requires room { 0 < reader.old.room }
         requires stages { stages ≤ 64 }
         requires small { length reader.old.head.now + reader.old.room < 2 ^ 34 }
-        ensures pass { IsCallers windows.now self.new.pass }
+        ensures pass { IsCallers windows.now (view self.old.pass).stages self.new.pass }
         // Whatever the answer, all windows were put and all end marks, or the queue was full at a moment.
         ensures fed { IsFed stages self.new }
         // Whatever the answer, bytes came from the source, and the rest is left.

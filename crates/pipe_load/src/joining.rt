@@ -5,7 +5,8 @@ ghost use Rattle.range_guess.specs.Span.{IsSpanOf};
 ghost use Rattle.range_scan.specs.Joined.{IsBegun};
 ghost use Rattle.range_scan.specs.Scanned.{IsScanOf};
 ghost use Rattle.pipe_load.specs.Scanning.{HasParts};
-ghost use Rattle.pipe_load.specs.Joining.{AddsRange, AddsRanges, stretch_len};
+ghost use Rattle.pipe_load.specs.Joining.{AddsRange, AddsRanges};
+ghost use Rattle.pipe_load.specs.Layout.{stretch_len};
 
 use crate::scanner::{Kept, Scanner};
 use csv_source::{Gate, NoMemory};

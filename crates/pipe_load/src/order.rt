@@ -22,8 +22,8 @@ use csv_source::{Gate, NoMemory};
 use std::alloc::Global;
 use std::sync::Wait;
 
-/// The windows that stages kept and those that wait, in hand, and the caller's pass with what the stages took. What isn't in
-/// hand then is in the queue.
+/// The windows that stages kept and those that wait, in hand, and the caller's pass with what the stages took: all passes
+/// that were split off it come back. What isn't in hand then is in the queue.
 fn take_in_hand(
     alloc: Global,
     windows: &Windows,
@@ -31,7 +31,7 @@ fn take_in_hand(
     stages: Vec<Stage>,
     count: u64,
 ) -> Result<(Slots, Pass), NoMemory>
-    requires feed { IsCallers windows.now feed.pass }
+    requires feed { IsCallers windows.now (vec_len stages) feed.pass }
     requires made { length (made_of feed) ≡ count }
     requires numbered { AreNumbered (made_of feed) }
     requires stages { All (IsStage windows.now) stages.items }
@@ -64,7 +64,7 @@ pub fn join_windows<R: Wait, G: Gate>(
     stages: Vec<Stage>,
     count: u64,
 ) -> Result<Counted, NoMemory>
-    requires feed { IsCallers windows.now feed.pass }
+    requires feed { IsCallers windows.now (vec_len stages) feed.pass }
     requires made { length (made_of feed) ≡ count }
     requires numbered { AreNumbered (made_of feed) }
     requires stages { All (IsStage windows.now) stages.items }

@@ -1,5 +1,5 @@
 //! The scans of the ranges of a window.
-ghost use Rattle.std.specs.Prelude.{◌≡◌, length, IfOk};
+ghost use Rattle.std.specs.Prelude.{◌≡◌, IfOk};
 ghost use Rattle.range_guess.specs.Span.{IsSpanOf};
 ghost use Rattle.pipe_load.specs.Layout.{IsLayout, IsStretchOf};
 
@@ -27,8 +27,8 @@ pub struct Scanner<'a, G: Gate> {
 }
 
 impl<'a, G: Gate> Scanner<'a, G> {
-    ghost use Rattle.pipe_load.specs.Layout.{base_of, stretch_of};
-    ghost use Rattle.pipe_load.specs.Scanning.{opening_of, guessed_parts, HasParts};
+    ghost use Rattle.pipe_load.specs.Layout.{base_of, stretch_of, stretch_len};
+    ghost use Rattle.pipe_load.specs.Scanning.{opening_of, guessed_parts, IsScanned};
 
     /// The state in which a range is scanned first: the data's first range opens where a row begins, any other in its guess.
     fn opening(&self, bytes: &[u8], span: &Span) -> State
@@ -52,7 +52,7 @@ impl<'a, G: Gate> Scanner<'a, G> {
         requires base { base ≡ base_of self.now.layout window.now }
         requires is { stretch.now ≡ stretch_of self.now.layout window.now }
         requires within { IsStretchOf base stretch.now window.now.bytes }
-        ensures { IfOk result (λ parts. parts.items ≡ guessed_parts self.now.ranges.context.now self.now.layout window.now (length parts.items)) }
+        ensures { IfOk result (λ parts. parts.items ≡ guessed_parts self.now.ranges.context.now self.now.layout window.now (stretch_len self.now.layout window.now)) }
     {
         let bytes = window.bytes();
         let view = View { bytes, base };
@@ -68,7 +68,7 @@ impl<'a, G: Gate> Scanner<'a, G> {
 
     /// A window with the parts of all its ranges, each in its guess.
     pub fn scan_window(&self, worker: u32, window: Window) -> Result<Kept, NoMemory>
-        ensures value { IfOk result (λ kept. HasParts self.now.ranges.context.now self.now.layout kept) }
+        ensures value { IfOk result (λ kept. IsScanned self.now.ranges.context.now self.now.layout kept) }
         ensures same { IfOk result (λ kept. kept.window ≡ window) }
     {
         let (base, stretch) = self.layout.stretch_of(&window)?;

@@ -1,6 +1,7 @@
 //! The queue of windows by itself.
-ghost use Rattle.std.specs.Prelude.{◌≡◌, ◌+◌, ◌<◌, ◌^◌, true, length, OnOk};
+ghost use Rattle.std.specs.Prelude.{◌≡◌, ◌+◌, ◌<◌, ◌^◌, length, OnOk};
 ghost use Rattle.crossbeam_queue.specs.Passes.{view, IsPassOf};
+ghost use Rattle.pipe_load.specs.declared.pass_view.Role.TheVariants as roles;
 
 use csv_source::NoMemory;
 use pipe_load::{Item, Pass, Window, Windows};
@@ -19,11 +20,11 @@ fn put<R: Wait + Abort>(
     bytes: &[u8],
 ) -> Result<(), NoMemory>
     requires pass { IsPassOf windows.now.line pass.old }
-    requires caller { (view pass.old).is_caller ≡ true }
+    requires caller { (view pass.old).role ≡ roles.Caller }
     requires few { number < 2 ^ 32 }
     requires before { (length (view pass.old).put ≡ number) × ((view pass.old).puts ≡ number) }
     ensures pass { OnOk result (IsPassOf windows.now.line pass.new) }
-    ensures caller { OnOk result ((view pass.new).is_caller ≡ true) }
+    ensures caller { OnOk result ((view pass.new).role ≡ roles.Caller) }
     ensures before { OnOk result ((length (view pass.new).put ≡ number + 1) × ((view pass.new).puts ≡ number + 1)) }
 {
     let mut copy = Vec::new(alloc);

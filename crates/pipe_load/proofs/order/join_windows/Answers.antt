@@ -2,7 +2,8 @@ use Rattle.std.proofs.Common.{◌≡◌, ◌++◌, List, length, min, ◌*◌, s
 use Rattle.range_guess.specs.Cut.{range_count}
 use Rattle.pipe_load.specs.declared.window.Window.{Window}
 use Rattle.pipe_load.specs.Feeding.{made_of}
-use Rattle.pipe_load.specs.Joining.{AddsRanges, IsJoinedTo, stretch_len}
+use Rattle.pipe_load.specs.Joining.{AddsRanges, IsJoinedTo}
+use Rattle.pipe_load.specs.Layout.{stretch_len}
 use Rattle.pipe_load.specs.Slots.{HasPut}
 use Rattle.pipe_load.proofs.LoadLaws.{one_is, begins_before, next_window, first_window, last_window}
 use Rattle.pipe_load.proofs.order.join_windows.Goals as goal

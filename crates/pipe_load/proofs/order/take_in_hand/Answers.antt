@@ -57,6 +57,6 @@ returns-clause-held c =
     let slots : AreSlots h.0 h.1 (made_of c.args.feed) c.in_ok-slots.slots = c.in_ok-slots.ensures.slots h.0 h.1 (made_of c.args.feed) c.requires.made in
     let many = slots.many in let a = c.place_stages.ensures.same in let b = c.place_waiting.ensures.same in
     let first : HoldsAll c.in_ok-slots.slots (view c.args.feed.pass).taken = none_held c.in_ok-slots.slots _ c.requires.feed.taken in
-    all_held put c.args.feed.waiting.items c.place_waiting.new.self (view c.place_stages.new.pass) c.requires.numbered c.place_stages.ensures.pass.put_is
+    all_held put c.args.feed.waiting.items c.place_waiting.new.self (view c.place_stages.new.pass) c.requires.numbered c.place_stages.ensures.pass.put_is c.place_stages.ensures.joined
     (omega (arith, many, a, b, c.in_ok-slots.slots.slots.ok.0))
     (all_stay c.place_stages.new.self c.place_waiting.new.self _ c.place_waiting.ensures.stays (c.place_stages.ensures.taken first)) c.place_waiting.ensures.all

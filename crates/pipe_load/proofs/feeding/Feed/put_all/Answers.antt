@@ -1,7 +1,8 @@
-use Rattle.std.proofs.Common.{◌≡◌, ◌++◌, length, arith, ap, sym, ◌∙◌, length-append, Err}
+use Rattle.std.proofs.Common.{◌≡◌, ℕ, ◌++◌, length, subst, arith, ap, sym, ◌∙◌, length-append, Err}
 use Rattle.std.proofs.KnownBytes.{Consumes-trans}
 use Rattle.window_load.specs.declared.stop.LoadStop.TheVariants.{TooLarge}
 use Rattle.pipe_load.specs.declared.window.Window.{Window}
+use Rattle.pipe_load.specs.Feeding.{IsFeed}
 use Rattle.pipe_load.proofs.FeedingLaws.{made_length, few_windows, few_made}
 use Rattle.pipe_load.proofs.CuttingLaws.{cut_more, cut_all, some_stride}
 use Rattle.pipe_load.proofs.feeding.Feed.put_all.Goals as goal
@@ -61,7 +62,7 @@ loop-preserved g c =
     let step = rw c.in-Ok-Some.field-0-is at c.in-Ok-Some.ensures.ok in
     let next = cut_more _ (some_stride _ c.requires.layout) _ _ _ _ _ _ _ _ _ h.2 _ _ _ c.in-Ok-Some.window step.2 in
     record {
-      feed = c.keep.ensures.feed;
+      feed = subst (λ (n : ℕ). IsFeed c.args.windows.now n c.keep.new.self) c.loop.invariant.feed.pass.stages c.keep.ensures.feed;
       cut = (h.0 ++ step.0, h.1 ++ step.1, rw (← c.in_ok-keep-in-Ok-Some.ensures.ok) at next);
       held = c.next.ensures.held ∙ c.loop.invariant.held;
       count = let a = c.next.ensures.count in let b = c.loop.invariant.count in omega (arith, a, b);

@@ -3,9 +3,9 @@ use Rattle.range_guess.specs.declared.span.Span.{Span}
 use Rattle.range_scan.specs.Scanned.{Scanned}
 use Rattle.range_guess.specs.declared.stretch.Stretch.{Stretch}
 use Rattle.range_guess.specs.Stretch.{stretch_count, span_of}
-use Rattle.pipe_load.specs.Layout.{base_of, stretch_of}
+use Rattle.pipe_load.specs.Layout.{base_of, stretch_of, stretch_len}
 use Rattle.pipe_load.specs.Scanning.{guessed_part}
-use Rattle.pipe_load.specs.Joining.{AddsRange, AddsRanges, GuessedFrom, stretch_len}
+use Rattle.pipe_load.specs.Joining.{AddsRange, AddsRanges, GuessedFrom}
 use Rattle.pipe_load.proofs.WindowRanges.{adds_more, adds_none, parts_next}
 use Rattle.pipe_load.proofs.joining.Counted.add_window.Goals as goal
 

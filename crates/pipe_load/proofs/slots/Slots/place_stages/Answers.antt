@@ -1,4 +1,4 @@
-use Rattle.std.proofs.Common.{List, [], ◌∷◌, ◌++◌, All, ◌∙◌, sym, ap, subst, arith}
+use Rattle.std.proofs.Common.{◌≡◌, ◌+◌, ◌-◌, List, [], ◌∷◌, ◌++◌, length, length-append, All, ◌∙◌, sym, ap, subst, arith}
 use Rattle.std.proofs.lemmas.List.Elements.{All-append}
 use Rattle.crossbeam_queue.specs.Passes.{view}
 use Rattle.pipe_load.specs.declared.stage.Stage.{Stage}
@@ -20,6 +20,10 @@ loop-stage-preserved c =
     record {
       pass = subst (λ (ws : List Window). HasPut c.args.windows.now ws c.place_stage.new.pass) inv.pass.put_is c.place_stage.ensures.pass;
       many = c.place_stage.ensures.same ∙ inv.many;
+      apart =
+          let left : (view c.place_stage.new.pass).stages ≡ (view c.loop-stage.pass).stages - 1 = ap (λ v. v.stages) c.place_stage.ensures.joined in
+          let lengths : length c.loop-stage.stages.items ≡ length rest + 1 = ap length items ∙ length-append rest (one ∷ []) in
+          let before = inv.apart in omega (arith, left, lengths, before, c.loop-stage.stages.ok.0, c.pop.new.self.ok.0);
       stages = all_but_last (IsStage c.args.windows.now) rest one stages;
       all = (inv.all.0, inv.all.1, all_but_last (HasScanned inv.all.0 inv.all.1) rest one scanned);
       slots = λ context plan made more is all before.

@@ -12,6 +12,7 @@ abbrev pub invariant-loop-stage : goal.invariant-loop-stage
 invariant-loop-stage l = record {
   pass : HasPut l.windows (view l.fn.pass).put l.pass;
   many : vec_len l.self.slots ≡ vec_len l.fn.self.slots;
+  apart : (view l.pass).stages ≡ vec_len l.stages;
   stages : All (IsStage l.windows) l.stages.items;
   all : (context : Context) × (plan : Layout) × All (HasScanned context plan) l.stages.items;
   slots : (context : Context) (plan : Layout) (made more : List Window) → made ≡ (view l.fn.pass).put ++ more → All (HasScanned context plan) l.initial.stages.items → AreSlots context plan made l.fn.self
