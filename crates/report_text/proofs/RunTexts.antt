@@ -6,27 +6,6 @@ use Rattle.std.proofs.lemmas.List.{drop-drop}
 use Rattle.csv_source.specs.Shown.{shown, shown_byte}
 use Rattle.report_text.specs.Ordinary.{is_ordinary, is_spelled}
 
-module _ {X : Type 0} (p : X → Bool) where
-  -- a front that passes whole is a part of the run
-  pub run_on : (n : ℕ) (xs : List X) → prefix_len p (take n xs) ≡ n → prefix_len p xs ≡ n + prefix_len p (drop n xs)
-  run_on zero xs h = omega arith
-  run_on (suc n) [] h = absurd (let no : ⊥ = omega (arith, h) in no)
-  run_on (suc n) (x ∷ xs) h =
-      (elim (p x) as (λ b. cond b (1 + prefix_len p (take n xs)) 0 ≡ suc n → cond b (1 + prefix_len p xs) 0 ≡ suc n + prefix_len p (drop n xs)) [
-        | true ↦ λ e. (let rest = run_on n xs (omega (arith, e)) in omega (arith, rest))
-        | false ↦ λ e. absurd (let no : ⊥ = omega (arith, e) in no)
-      ]) h
-
-  -- a run that ends in a front
-  pub run_ends : (n : ℕ) (xs : List X) → n ≤ length xs → prefix_len p (take n xs) < n → prefix_len p xs ≡ prefix_len p (take n xs)
-  run_ends zero xs le h = absurd (let no : ⊥ = omega (arith, h) in no)
-  run_ends (suc n) [] le h = absurd (let no : ⊥ = omega (arith, le) in no)
-  run_ends (suc n) (x ∷ xs) le h =
-      (elim (p x) as (λ b. cond b (1 + prefix_len p (take n xs)) 0 < suc n → cond b (1 + prefix_len p xs) 0 ≡ cond b (1 + prefix_len p (take n xs)) 0) [
-        | true ↦ λ lt. ap (λ k. 1 + k) (run_ends n xs (omega (arith, le)) (omega (arith, lt)))
-        | false ↦ λ lt. refl
-      ]) h
-
 neither : (a b : Bool) → (a || b) ≡ false → (a ≡ false) × (b ≡ false)
 neither true b h = absurd (let no : ⊥ = cc in no)
 neither false true h = absurd (let no : ⊥ = cc in no)

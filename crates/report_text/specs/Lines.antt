@@ -15,7 +15,7 @@ use Rattle.csv_sniffer.specs.declared.found.Sniffed.{Sniffed}
 use Rattle.reject_book.specs.declared.reject.Reject.{Reject}
 use Rattle.reject_book.specs.Kind.{name_of_kind}
 use Rattle.report_text.specs.declared.outcome.Mismatch.{Mismatch}
-use Rattle.report_text.specs.declared.outcome.Mismatch.TheVariants.{NoColumn, TooManyColumns}
+use Rattle.report_text.specs.declared.outcome.Mismatch.TheVariants.{NoColumn, OtherHeader, TooManyColumns}
 use Rattle.report_text.specs.declared.outcome.Stats.{Stats}
 use Rattle.csv_source.specs.Shown.{shown, shown_option}
 
@@ -124,9 +124,13 @@ too_many_columns_line limit = line_of (codes "fault" ∷ (codes "more than " ++ 
 abbrev pub no_column_line : List ℕ → List ℕ
 no_column_line name = line_of (codes "fault" ∷ (codes "no column " ++ shown name) ∷ [])
 
+abbrev pub other_header_line : List ℕ → List ℕ
+other_header_line file = line_of (codes "fault" ∷ (codes "other header in " ++ shown file) ∷ [])
+
 abbrev pub too_many_faults_line : ℕ → List ℕ
 too_many_faults_line bound = line_of (codes "fault" ∷ (codes "over " ++ decimal bound ++ codes " faults") ∷ [])
 
 abbrev pub mismatch_line : Mismatch → List ℕ
 mismatch_line (NoColumn name names) = no_column_line name
+mismatch_line (OtherHeader file names) = other_header_line file
 mismatch_line (TooManyColumns limit) = too_many_columns_line limit

@@ -1,6 +1,6 @@
 // The lines of requests that weren't done.
 ghost use Rattle.std.specs.Prelude.{◌≡◌, ◌++◌, OnOk};
-ghost use Rattle.report_text.specs.Lines.{mismatch_line, no_column_line, read_fault_line, refused_line, rule_name, too_large_line, too_many_columns_line, too_many_faults_line};
+ghost use Rattle.report_text.specs.Lines.{mismatch_line, no_column_line, other_header_line, read_fault_line, refused_line, rule_name, too_large_line, too_many_columns_line, too_many_faults_line};
 
 use crate::Mismatch;
 use crate::lines::{Part, push_line, push_number, push_plain};
@@ -76,12 +76,22 @@ fn push_no_column(into: &mut Vec<u8>, name: &[u8]) -> Result<(), NoMemory>
     push_plain(into, b"\n")
 }
 
+/// Appends the line of a file of that name that doesn't begin with the header of the first one.
+fn push_other_header(into: &mut Vec<u8>, file: &[u8]) -> Result<(), NoMemory>
+    ensures { OnOk result (into.new.items ≡ into.old.items ++ other_header_line file.now) }
+{
+    push_plain(into, b"fault|other header in ")?;
+    push_shown(into, file)?;
+    push_plain(into, b"\n")
+}
+
 /// Appends the line of words that don't fit the file.
 pub(crate) fn push_mismatch(into: &mut Vec<u8>, mismatch: &Mismatch) -> Result<(), NoMemory>
     ensures { OnOk result (into.new.items ≡ into.old.items ++ mismatch_line mismatch.now) }
 {
     match mismatch {
         Mismatch::NoColumn(name, _names) => push_no_column(into, name.as_slice()),
+        Mismatch::OtherHeader(file, _names) => push_other_header(into, file.as_slice()),
         Mismatch::TooManyColumns(limit) => push_too_many_columns(into, *limit),
     }
 }

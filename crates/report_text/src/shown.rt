@@ -6,6 +6,7 @@ ghost use Rattle.report_text.specs.Moves.{HasShown};
 
 use crate::runs::run_end;
 use csv_source::NoMemory;
+use text_pieces::append_run;
 
 /// The byte of a hexadecimal digit.
 fn hex_digit(value: u8) -> u8
@@ -47,12 +48,13 @@ pub(crate) fn push_shown_byte(into: &mut Vec<u8>, byte: u8) -> Result<(), NoMemo
 }
 
 /// Appends the bytes from `at` on up to the first that is spelled, and that one; answers the place behind it.
+#[inline(always)]
 fn push_stretch(into: &mut Vec<u8>, bytes: &[u8], at: usize) -> Result<usize, NoMemory>
     requires within { at < length bytes.now }
     ensures ok { IfOk result (λ next. HasShown into.old.items into.new.items bytes.now at next) }
 {
     let end = run_end(bytes, at);
-    into.extend_from_slice(&bytes[at..end])?;
+    append_run(into, bytes, at, end)?;
     if end == bytes.len() {
         return Ok(end);
     }
