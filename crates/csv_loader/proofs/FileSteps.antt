@@ -13,8 +13,8 @@ use Rattle.report_text.specs.declared.outcome.Outcome.TheVariants as outcomes
 use Rattle.csv_loader.specs.declared.batch.Load.{Load}
 use Rattle.csv_loader.specs.declared.loading.FileLoad.{FileLoad}
 use Rattle.csv_loader.specs.Batch.{found_in_first, batch_refusal, last_read, load_of, no_files, with_load, AreOpened, AreRead, CanJoin, HasFiles, IsLoadOf, IsOver, IsPrintableFiles, IsReadWhole, IsReadOver, LacksOne}
-use Rattle.csv_loader.specs.Loading.{IsInput, IsFileLoad}
-use Rattle.csv_loader.proofs.Batches.{IsSoFarLoad, none_loaded, one_more, can_join, is_load_of, has_files, all_print}
+use Rattle.csv_loader.specs.Loading.{IsInput}
+use Rattle.csv_loader.proofs.Batches.{IsNextLoad, IsSoFarLoad, none_loaded, one_more, can_join, is_load_of, has_files, all_print}
 
 abbrev pub Told : Type 0
 Told = Option (List (List ℕ × List ℕ))
@@ -214,16 +214,16 @@ pub none_so_far : (o : Options) (s : Sniffed) (held : Told) (all : List (List �
 none_so_far o s held all = record { read = none_read o.max_input held all; numbered = refl; found_in = tt; loads = none_loaded o s }
 
 module _ (o : Options) (s : Sniffed) (held : Told) (all : List (List ℕ)) (name : List ℕ) (later : List (List ℕ)) (number : ℕ) (load : Load) (is : IsSoFar o s held all (name ∷ later) number load) (left : Option (List ℕ)) where
-  pub may_join : (file : FileLoad) → IsReadWhole o.max_input held name left (λ input. IsFileLoad o s number input file) → CanJoin load file
-  may_join file read = can_join o s is.read.names is.read.inputs name read.0 number load file is.loads read.3
+  pub may_join : (file : FileLoad) → IsReadWhole o.max_input held name left (λ input. IsNextLoad o s number input file) → CanJoin load file
+  may_join file read = can_join o s is.read.names is.read.inputs read.0 number load file is.loads read.3
 
-  pub next_file : (file : FileLoad) (read : IsReadWhole o.max_input held name left (λ input. IsFileLoad o s number input file)) → (number ≡ 0 → s ≡ found o read.0) →
+  pub next_file : (file : FileLoad) (read : IsReadWhole o.max_input held name left (λ input. IsNextLoad o s number input file)) → (number ≡ 0 → s ≡ found o read.0) →
       IsSoFar o s held all later (number + 1) (with_load load name file)
   next_file file read first = record {
     read = one_more_read o.max_input held all name later is.read left read.0 read.1 read.2;
     numbered = omega (arith, length-append is.read.inputs (read.0 ∷ []), is.numbered);
     found_in = found-more o s is.read.inputs read.0 is.found_in (λ none. first (is.numbered ∙ none));
-    loads = one_more o s is.read.names is.read.inputs name read.0 load file is.read.as_many is.loads (subst (λ n. IsFileLoad o s n read.0 file) is.numbered read.3);
+    loads = one_more o s name read.0 is.read.names is.read.inputs load file is.read.as_many is.loads (subst (λ n. IsNextLoad o s n read.0 file) is.numbered read.3);
   }
 
 module _ (o : Options) (s : Sniffed) (held : Told) (all : List (List ℕ)) (number : ℕ) (load : Load) (is : IsSoFar o s held all [] number load) where

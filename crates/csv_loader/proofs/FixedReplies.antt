@@ -58,6 +58,7 @@ module _ (o : Options) (s : Sniffed) (taps : List Seen) where
   answered_alike : (answer : Answer) (load : Load) → IsSameReply (whole_or_error answer (fixed o s) (unhinted s) taps load) (whole_or_error answer o s taps load)
   answered_alike answer (loads.Whole batch stats) = bounded_alike _ _ (passed_bound o.max_errors (all_in batch.files)) (whole_alike answer batch stats)
   answered_alike answer (loads.FirstError reject) = record { status = refl; text = refl }
+  answered_alike answer (loads.OtherHeader file) = record { status = refl; text = refl }
 
   fitting_alike : (answer : Answer) (load : Load) → IsSameReply (fitting_reply answer (fixed o s) (unhinted s) taps load) (fitting_reply answer o s taps load)
   fitting_alike answers.Loaded load = answered_alike answers.Loaded load

@@ -23,7 +23,7 @@ use Rattle.csv_loader.specs.declared.batch.Load.TheVariants as loads
 use Rattle.csv_loader.specs.declared.loading.FileLoad.{FileLoad}
 use Rattle.csv_loader.specs.declared.loading.FileLoad.TheVariants as file_loads
 use Rattle.csv_loader.specs.declared.loading.LoadedData.{LoadedData}
-use Rattle.csv_loader.specs.Loading.{IsInput}
+use Rattle.csv_loader.specs.Loading.{is_headed_otherwise, IsInput}
 
 -- ---- files that are all there
 
@@ -73,8 +73,21 @@ abbrev pub unless_error : Load → Option Reject → Load
 unless_error load None = load
 unless_error load (Some reject) = loads.FirstError reject
 
+-- the first of some named inputs that must begin with the header of the first one, and doesn't
+abbrev pub other_header_in : Options → Sniffed → List (List ℕ) → List (List ℕ) → Option (List ℕ)
+other_header_in o s [] inputs = None
+other_header_in o s (name ∷ names) [] = None
+other_header_in o s (name ∷ names) (input ∷ inputs) = if is_headed_otherwise o s input then Some name else other_header_in o s names inputs
+
+-- the name of the first later input that begins with another header; that comes before a first error
+abbrev pub unless_headed_otherwise : Load → Option (List ℕ) → Load
+unless_headed_otherwise load None = load
+unless_headed_otherwise load (Some name) = loads.OtherHeader name
+
 abbrev pub load_of : Options → Sniffed → List (List ℕ) → List (List ℕ) → Load
-load_of o s names inputs = unless_error (loads.Whole (batch_of o s names inputs) (batch_stats o s inputs)) (batch_error o s inputs)
+load_of o s names inputs =
+    unless_headed_otherwise (unless_error (loads.Whole (batch_of o s names inputs) (batch_stats o s inputs)) (batch_error o s inputs))
+    (other_header_in o s (drop 1 names) (drop 1 inputs))
 
 -- ---- files that may not be there, or be too large
 
@@ -120,16 +133,26 @@ abbrev pub with_loaded : BatchView → Stats → List ℕ → LoadedData → Loa
 with_loaded batch stats name loaded =
     loads.Whole (with_file batch loaded.table.rows (record { name = name; book = loaded.book })) (both_stats stats loaded.stats)
 
--- with what one more file comes to; a first error stays
+-- behind a first error, which stays unless one more file begins with another header
+abbrev pub behind_error : Reject → List ℕ → FileLoad → Load
+behind_error reject name (file_loads.Whole loaded) = loads.FirstError reject
+behind_error reject name (file_loads.FirstError later) = loads.FirstError reject
+behind_error reject name file_loads.OtherHeader = loads.OtherHeader name
+
+-- with what one more file comes to; a header that is another one stays
 abbrev pub with_load : Load → List ℕ → FileLoad → Load
-with_load (loads.FirstError reject) name load = loads.FirstError reject
-with_load (loads.Whole batch stats) name (file_loads.FirstError reject) = loads.FirstError reject
+with_load (loads.OtherHeader first) name load = loads.OtherHeader first
+with_load (loads.FirstError reject) name load = behind_error reject name load
 with_load (loads.Whole batch stats) name (file_loads.Whole loaded) = with_loaded batch stats name loaded
+with_load (loads.Whole batch stats) name (file_loads.FirstError reject) = loads.FirstError reject
+with_load (loads.Whole batch stats) name file_loads.OtherHeader = loads.OtherHeader name
 
 -- tables that are joined have the same types
 abbrev pub CanJoin : Load → FileLoad → Type 0
 CanJoin (loads.FirstError reject) load = ⊤
+CanJoin (loads.OtherHeader first) load = ⊤
 CanJoin (loads.Whole batch stats) (file_loads.FirstError reject) = ⊤
+CanJoin (loads.Whole batch stats) file_loads.OtherHeader = ⊤
 CanJoin (loads.Whole batch stats) (file_loads.Whole loaded) = batch.types ≡ loaded.table.types
 
 -- the names of a word: several, cut at each comma, or the word itself
@@ -170,8 +193,10 @@ LacksOne limit (Some files) names = batch_refusal limit (map (file_of files) nam
 abbrev pub HasFiles : ℕ → Load → Type 0
 HasFiles n (loads.Whole batch stats) = length batch.files ≡ n
 HasFiles n (loads.FirstError reject) = ⊤
+HasFiles n (loads.OtherHeader name) = ⊤
 
 -- each answer to what was found and loaded has a text
 abbrev pub IsPrintableFiles : Sniffed → Load → Type 0
 IsPrintableFiles s (loads.Whole batch stats) = IsPrintableBatch s batch
 IsPrintableFiles s (loads.FirstError reject) = length s.names ≡ length s.types
+IsPrintableFiles s (loads.OtherHeader name) = ⊤

@@ -4,7 +4,7 @@ ghost use Rattle.std.specs.Prelude.{◌≡◌, IfOk, ◌⊎◌, ◌≤◌, ◌�
 ghost use Rattle.csv_source.specs.Causes.{Rose};
 ghost use Rattle.load_options.specs.FileNames.{file_names};
 ghost use Rattle.window_load.specs.declared.stop.LoadStop.TheVariants as stops;
-ghost use Rattle.csv_loader.specs.Batch.{both_stats, no_files, with_load, with_loaded, AreRead, CanJoin, HasFiles, IsLoadOf, IsOver, IsPrintableFiles, LacksOne, names_behind, names_of};
+ghost use Rattle.csv_loader.specs.Batch.{behind_error, both_stats, no_files, with_load, with_loaded, AreRead, CanJoin, HasFiles, IsLoadOf, IsOver, IsPrintableFiles, LacksOne, names_behind, names_of};
 
 use crate::loader::Loader;
 use crate::loading::{FileLoad, LoadedData};
@@ -26,6 +26,8 @@ pub enum Load {
     Whole(Batch, Stats),
     /// The load ends with the first error of all files.
     FirstError(Reject),
+    /// A later file, the first one of this name, doesn't begin with the header of the first file, as it has to.
+    OtherHeader(Bytes),
 }
 
 /// The stats of two files together. What can't be counted counts as want of memory.
@@ -74,16 +76,31 @@ fn with_loaded(
     Ok(Load::Whole(batch, stats))
 }
 
-/// The files so far with what one more comes to. A first error stays.
+/// The files so far, of which one has a first error, with what one more comes to. The error stays, unless that one begins
+/// with another header.
+fn behind_error(alloc: Global, reject: Reject, name: &str, load: FileLoad) -> Result<Load, NoMemory>
+    ensures ok { IfOk result (λ next. next ≡ behind_error reject name.now load) }
+{
+    match load {
+        FileLoad::Whole(_) | FileLoad::FirstError(_) => Ok(Load::FirstError(reject)),
+        FileLoad::OtherHeader => Ok(Load::OtherHeader(Bytes::copy_of(alloc, name.as_bytes())?)),
+    }
+}
+
+/// The files so far with what one more comes to. A header that is another one stays.
 fn with_load(alloc: Global, so_far: Load, name: &str, load: FileLoad) -> Result<Load, NoMemory>
     requires types { CanJoin so_far load }
     ensures ok { IfOk result (λ next. next ≡ with_load so_far name.now load) }
 {
     match so_far {
-        Load::FirstError(reject) => Ok(Load::FirstError(reject)),
+        Load::OtherHeader(first) => Ok(Load::OtherHeader(first)),
+        Load::FirstError(reject) => behind_error(alloc, reject, name, load),
         Load::Whole(batch, stats) => match load {
-            FileLoad::FirstError(reject) => Ok(Load::FirstError(reject)),
             FileLoad::Whole(loaded) => with_loaded(alloc, batch, stats, name, loaded),
+            FileLoad::FirstError(reject) => Ok(Load::FirstError(reject)),
+            FileLoad::OtherHeader => {
+                Ok(Load::OtherHeader(Bytes::copy_of(alloc, name.as_bytes())?))
+            }
         },
     }
 }

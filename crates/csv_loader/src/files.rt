@@ -1,6 +1,6 @@
 // A file of which the head is read, before its sample is looked at, and then its data.
 ghost use Rattle.load_options.specs.Accepted.{IsAccepted};
-ghost use Rattle.std.specs.Prelude.{◌≡◌, ◌⊎◌, ◌≤◌, ◌^◌, true, false, IfOk, IsTrue, IsFalse, Err};
+ghost use Rattle.std.specs.Prelude.{◌≡◌, ◌⊎◌, ◌≤◌, ◌<◌, ◌^◌, length, true, false, IfOk, IsTrue, IsFalse, Err};
 ghost use Rattle.std.specs.Io.KnownBytes.{Consumes, IsAtEnd};
 ghost use Rattle.csv_source.specs.Causes.{Rose};
 ghost use Rattle.csv_source.specs.Files.{Lacks, Opens};
@@ -10,7 +10,7 @@ ghost use Rattle.window_load.specs.Window.{no_bytes};
 ghost use Rattle.window_load.specs.declared.stop.LoadStop.TheVariants as stops;
 ghost use Rattle.csv_sniffer.specs.Input.{found};
 ghost use Rattle.csv_loader.specs.Batch.{IsOpened, IsReadWhole, IsReadOver};
-ghost use Rattle.csv_loader.specs.Loading.{IsHead, GoesBehindSample, IsFileLoad};
+ghost use Rattle.csv_loader.specs.Loading.{is_headed_otherwise, IsHead, GoesBehindSample, IsFileLoad, IsLaterLoad};
 ghost use Rattle.csv_loader.specs.Reading.{schema_of};
 ghost use Rattle.csv_loader.specs.Reply.{sniffed_outcome};
 ghost use Rattle.report_text.specs.Printable.{IsPrintable};
@@ -19,7 +19,8 @@ use crate::loader::Loader;
 use crate::loading::FileLoad;
 use crate::sniffed_head::SniffedHead;
 use csv_sniffer::{
-    Finding, SAMPLE_LIMIT, Sniffed, explain, place_under, sample_start, sniff_input,
+    Finding, SAMPLE_LIMIT, Sniffed, explain, has_same_header, place_under, sample_start,
+    sniff_input,
 };
 use csv_source::{Gate, NoMemory, Source};
 use report_text::Outcome;
@@ -82,6 +83,17 @@ impl<'a, R, G> Loader<'a, R, G> {
         read_head(self.alloc, source, options.skip, options.max_input)
     }
 
+    /// Whether a later file must begin with the header of the first one, and doesn't.
+    fn is_headed_otherwise(&self, sniffed: &Sniffed, head: &[u8]) -> Result<bool, NoMemory>
+        requires few { length sniffed.now.names < 2 ^ 63 }
+        ensures ok { IfOk result (λ other. other ≡ is_headed_otherwise self.now.options.now sniffed.now head.now) }
+    {
+        if !self.options.same_header {
+            return Ok(false);
+        }
+        Ok(!has_same_header(self.alloc, self.options, sniffed, head)?)
+    }
+
     /// What `sniff` tells of an input.
     fn sniffed_outcome(&self, input: &[u8]) -> Result<Outcome, NoMemory>
         requires accepted { IsAccepted self.now.options.now }
@@ -130,6 +142,7 @@ impl<'a, R: Threads + Wait + Sync, G: Gate> Loader<'a, R, G> {
             IfOk result (λ read. IsReadWhole o.max_input (S.held source.old) name.now (S.left source.new)
             (λ input. (read.0 ≡ found o input) × IsFileLoad o read.0 0 input read.1)) }
         ensures columns { IfOk result (λ read. HasColumns (schema_of self.now.options.now read.0)) }
+        ensures few { IfOk result (λ read. length read.0.names < 2 ^ 63) }
         ensures too_large { result ≡ Err stops.TooLarge → IsReadOver self.now.options.now.max_input (S.held source.old) name.now (S.left source.new) }
         ensures failed { result ≡ Err stops.Failed → Rose (S.faults source.old) (S.faults source.new) ⊎ Lacks (S.held source.old) name.now }
         ensures held { S.held source.new ≡ S.held source.old }
@@ -145,7 +158,7 @@ impl<'a, R: Threads + Wait + Sync, G: Gate> Loader<'a, R, G> {
         Ok((sniffed, load))
     }
 
-    /// Loads a later file of a number: its data under what was found in the first one.
+    /// Loads a later file of a number: its data under what was found in the first one, unless it begins with another header.
     pub fn load_later<S: Source + Send>(
         &self,
         sniffed: &Sniffed,
@@ -155,15 +168,20 @@ impl<'a, R: Threads + Wait + Sync, G: Gate> Loader<'a, R, G> {
     ) -> Result<FileLoad, LoadStop>
         requires accepted { IsAccepted self.now.options.now }
         requires columns { HasColumns (schema_of self.now.options.now sniffed.now) }
+        requires few { length sniffed.now.names < 2 ^ 63 }
         ensures ok { let o = self.now.options.now in
             IfOk result (λ load. IsReadWhole o.max_input (S.held source.old) name.now (S.left source.new)
-            (λ input. IsFileLoad o sniffed.now file_id input load)) }
+            (λ input. IsLaterLoad o sniffed.now file_id input load)) }
         ensures too_large { result ≡ Err stops.TooLarge → IsReadOver self.now.options.now.max_input (S.held source.old) name.now (S.left source.new) }
         ensures failed { result ≡ Err stops.Failed → Rose (S.faults source.old) (S.faults source.new) ⊎ Lacks (S.held source.old) name.now }
         ensures held { S.held source.new ≡ S.held source.old }
         ensures count { S.faults source.old ≤ S.faults source.new }
     {
-        let head = self.open_head(name, source)?;
+        let mut head = self.open_head(name, source)?;
+        if self.is_headed_otherwise(sniffed, head.bytes())? {
+            head.read_past(source)?;
+            return Ok(FileLoad::OtherHeader);
+        }
         let start = place_under(self.alloc, self.options, sniffed, head.bytes())?;
         self.load_data(sniffed, file_id, head, start, source)
     }

@@ -5,7 +5,7 @@ ghost use Rattle.column_taps.specs.Seen.{IsFresh};
 ghost use Rattle.report_text.specs.Printable.{IsPrintable, IsPrintableBatch};
 ghost use Rattle.csv_loader.specs.Batch.{HasFiles, IsPrintableFiles};
 ghost use Rattle.csv_loader.specs.Fitting.{is_of_one, is_unfit, passed_bound};
-ghost use Rattle.csv_loader.specs.Reply.{bounded_reply, fitting_reply, load_reply, no_column};
+ghost use Rattle.csv_loader.specs.Reply.{bounded_reply, fitting_reply, load_reply, no_column, other_header};
 
 use crate::answering::Answer;
 use crate::batch::Load;
@@ -17,6 +17,7 @@ use csv_sniffer::{Sniffed, missing_name};
 use csv_source::{Bytes, NoMemory};
 use file_list::Batch;
 use report_text::{Mismatch, Outcome, Stats, all_in};
+use std::alloc::Global;
 use std::thread::Threads;
 use value_types::Names;
 
@@ -54,6 +55,15 @@ impl<'a, R, G> Loader<'a, R, G> {
         let names = Names::copy_of(self.alloc, &sniffed.names)?;
         Ok(Some(Outcome::Mismatch(Mismatch::NoColumn(name, names))))
     }
+}
+
+/// The outcome where a file of that name begins with another header than the first one.
+fn other_header(alloc: Global, sniffed: &Sniffed, file: Bytes) -> Result<Outcome, NoMemory>
+    ensures ok { IfOk result (λ outcome. outcome ≡ other_header sniffed.now file) }
+    ensures printable { IfOk result IsPrintable }
+{
+    let names = Names::copy_of(alloc, &sniffed.names)?;
+    Ok(Outcome::Mismatch(Mismatch::OtherHeader(file, names)))
 }
 
 impl<'a, R: Threads + Sync, G> Loader<'a, R, G> {
@@ -99,6 +109,7 @@ impl<'a, R: Threads + Sync, G> Loader<'a, R, G> {
         match load {
             Load::Whole(batch, stats) => self.bounded_reply(answer, sniffed, batch, stats, taps),
             Load::FirstError(reject) => self.report(Outcome::FirstError(sniffed, reject)),
+            Load::OtherHeader(file) => self.report(other_header(self.alloc, &sniffed, file)?),
         }
     }
 

@@ -3,7 +3,8 @@ use Rattle.std.specs.Prelude.{option_map}
 use Rattle.csv_source.specs.Causes.{Rose}
 use Rattle.csv_source.specs.Files.{Lacks}
 use Rattle.csv_loader.specs.Batch.{IsReadWhole, IsReadOver, names_behind, names_of, no_files, with_load}
-use Rattle.csv_loader.specs.Loading.{IsFileLoad}
+use Rattle.csv_loader.specs.Loading.{IsFileLoad, IsLaterLoad}
+use Rattle.csv_loader.proofs.Batches.{IsNextLoad, later_is_next}
 use Rattle.csv_loader.proofs.FileSteps.{AreSoFar, IsSoFar, none_read, none_so_far, next_file, none_left, over_told, lacks_one, all_loaded, all_have_files, all_printable}
 use Rattle.csv_loader.proofs.loader.Loader.load_files.Goals as goal
 
@@ -101,14 +102,16 @@ loop-behind-preserved g c =
     let at : IsSoFar o s held all (name ∷ later) c.loop-behind.number c.loop-behind.so_far =
     subst (λ names. IsSoFar o s held all names c.loop-behind.number c.loop-behind.so_far)
     (ap (λ b. names_behind (option_map (λ text. text.now) b)) c.in-Some.is ∙ c.first_name.ensures) c.loop-behind.invariant.0 in
-    let read : IsReadWhole o.max_input held name left (λ input. IsFileLoad o s c.loop-behind.number input load) =
-    subst (λ h. IsReadWhole o.max_input h name left (λ input. IsFileLoad o s c.loop-behind.number input load)) c.loop-behind.invariant.3 c.in_ok-load.ensures.ok in
+    let come : IsReadWhole o.max_input held name left (λ input. IsLaterLoad o s c.loop-behind.number input load) =
+    subst (λ h. IsReadWhole o.max_input h name left (λ input. IsLaterLoad o s c.loop-behind.number input load)) c.loop-behind.invariant.3 c.in_ok-load.ensures.ok in
+    let read : IsReadWhole o.max_input held name left (λ input. IsNextLoad o s c.loop-behind.number input load) =
+    (come.0, come.1, come.2, later_is_next o s c.loop-behind.number come.0 load c.loop-behind.invariant.1 come.3) in
     let next : IsSoFar o s held all later (c.loop-behind.number + 1) (with_load c.loop-behind.so_far name load) =
     next_file o s held all name later c.loop-behind.number c.loop-behind.so_far at left load read (λ zero. absurd (let wrong : ⊥ = omega (arith, zero, c.loop-behind.invariant.1) in wrong)) in (
       subst (λ n. IsSoFar o s held all later n c.in_ok-so_far-2.so_far) (sym c.in_ok-number.ensures.ok)
           (subst (IsSoFar o s held all later (c.loop-behind.number + 1)) (sym c.in_ok-so_far-2.ensures.ok) next),
       omega (arith, c.in_ok-number.ensures.ok),
-      none_left o.max_input held name left (λ input. IsFileLoad o s c.loop-behind.number input load) read,
+      none_left o.max_input held name left (λ input. IsNextLoad o s c.loop-behind.number input load) read,
       c.load_later.ensures.held ∙ c.loop-behind.invariant.3,
       omega (arith, c.load_later.ensures.count, c.loop-behind.invariant.4),
     )

@@ -1,6 +1,8 @@
-use Rattle.std.proofs.Common.{◌≡◌, rules}
+use Rattle.std.proofs.Common.{◌≡◌, ◌<◌, ◌^◌, length, sym, subst, rules}
 use Rattle.window_load.specs.DataRead.{ComesOver}
 use Rattle.csv_sniffer.specs.Input.{found}
+use Rattle.csv_sniffer.specs.declared.found.Sniffed.{Sniffed}
+use Rattle.csv_sniffer.proofs.LaterHeaders.{few_found}
 use Rattle.csv_loader.specs.Loading.{IsFileLoad}
 use Rattle.csv_loader.proofs.HeadFiles.{whole_file, over_file}
 use Rattle.csv_loader.proofs.HeadSteps.{found_in_all}
@@ -18,6 +20,12 @@ returns-clause-ok g c =
     (λ input. IsFileLoad o s 0 input c.in_ok-load.load) (λ input. (s ≡ found o input) × IsFileLoad o s 0 input c.in_ok-load.load)
     (λ came quiet read. (found_in_all o head is.head came quiet s is.finding.sniffed, read))
     c.in_ok-load.ensures.ok
+
+pub returns-clause-few : goal.returns-clause-few
+returns-clause-few g c =
+    let o = c.args.self.now.options.now in
+    let head = c.in_ok-finding.field-0.head in
+    subst (λ (t : Sniffed). length t.names < 2 ^ 63) (sym c.in_ok-finding.ensures.ok.finding.sniffed) (few_found o head.kept c.requires.accepted)
 
 pub returns-in_err-finding-clause-too_large : goal.returns-in_err-finding-clause-too_large
 returns-in_err-finding-clause-too_large g c = λ e.
