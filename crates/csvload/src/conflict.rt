@@ -123,6 +123,26 @@ fn nulls_conflict(alloc: Global, words: &[String]) -> Result<String, NoMemory> {
     )
 }
 
+/// That names given, or none at all, can't stand beside headers that must be the same.
+fn header_conflict(alloc: Global, words: &[String]) -> Result<String, NoMemory> {
+    let same = word_giving(words, "same_header").unwrap_or("");
+    match word_giving(words, "names") {
+        Some(names) => {
+            let why = "can't stand together: given names are no header's";
+            pair(alloc, same, names, why)
+        }
+        None => {
+            let header = word_giving(words, "header").unwrap_or("");
+            pair(
+                alloc,
+                same,
+                header,
+                "can't stand together: there is no header then",
+            )
+        }
+    }
+}
+
 /// Why the word at that place can't stand beside another, or with the command.
 pub fn conflict(alloc: Global, words: &[String], word: &str) -> Result<String, NoMemory> {
     if name_of(word) == "table" || name_of(word) == "to" {
@@ -158,6 +178,7 @@ pub fn conflict(alloc: Global, words: &[String], word: &str) -> Result<String, N
     match name_of(word) {
         "column_types" | "types" | "all_varchar" => types_conflict(alloc, words),
         "nulls" | "nullstr" => nulls_conflict(alloc, words),
+        "same_header" | "names" | "header" => header_conflict(alloc, words),
         "max_errors" => {
             let bound = shortened(alloc, word.as_bytes())?;
             Ok(format!(in alloc; "{bound} wants ignore_errors=true or store_rejects=true")?)

@@ -1,5 +1,7 @@
 // What the words give.
+use csv_source::NoMemory;
 use load_options::word_at;
+use std::alloc::Global;
 
 /// The file, the number or the names of files.
 const SUBJECT: usize = 1;
@@ -15,6 +17,16 @@ pub fn command_word(words: &[String]) -> &str {
 /// The word behind the command.
 pub fn subject(words: &[String]) -> &str {
     word_at(words, SUBJECT)
+}
+
+/// The file of that number, from 0.
+pub fn file_at(alloc: Global, words: &[String], number: u64) -> Result<String, NoMemory> {
+    let word = subject(words);
+    let name = match command_word(words) {
+        "batch" => word.split(',').nth(number as usize).unwrap_or(word),
+        _ => word,
+    };
+    Ok(String::from_str(alloc, name)?)
 }
 
 /// What stands before the first `=` of a word, or the word.
