@@ -26,6 +26,7 @@ mod ranges;
 mod refused;
 mod rejects;
 mod rejects_written;
+mod same_header;
 mod stages;
 mod taps;
 mod watched;

@@ -7,11 +7,27 @@ use std::test::Fail;
 use std::thread::Threads;
 
 /// Words, the files by their names, and the reply to them.
-struct FilesCase {
-    words: &'static [&'static str],
-    files: &'static [File<'static>],
-    status: u8,
-    text: &'static [u8],
+pub struct FilesCase {
+    pub words: &'static [&'static str],
+    pub files: &'static [File<'static>],
+    pub status: u8,
+    pub text: &'static [u8],
+}
+
+/// The number of the first case whose reply is another one.
+pub fn wrong_files<R: Threads + Wait + Sync>(
+    rt: &R,
+    alloc: Global,
+    cases: &[FilesCase],
+) -> Result<Option<usize>, NoMemory> {
+    for (number, case) in cases.iter().enumerate() {
+        let words = words_of(alloc, case.words)?;
+        let reply = reply_to_files(rt, alloc, &words, case.files, IN_PIECES)?;
+        if reply.status() != case.status || reply.text() != case.text {
+            return Ok(Some(number));
+        }
+    }
+    Ok(None)
 }
 
 const ONE: File<'static> = ("a.csv", b"id,v\n1,a\n");
@@ -141,12 +157,7 @@ errors|2|4\n",
 
 #[test]
 fn several_files_have_their_replies(rt: HostRuntime) -> Result<(), Fail> {
-    for (number, case) in CASES.iter().enumerate() {
-        let words = words_of(rt.alloc(), case.words)?;
-        let reply = reply_to_files(&rt, rt.alloc(), &words, case.files, IN_PIECES)?;
-        assert_eq!(rt; reply.status(), case.status, "case {number}");
-        assert_eq!(rt; reply.text(), case.text, "case {number}");
-    }
+    assert_eq!(rt; wrong_files(&rt, rt.alloc(), &CASES)?, None);
     Ok(())
 }
 

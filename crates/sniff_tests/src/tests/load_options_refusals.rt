@@ -8,7 +8,7 @@ use std::test::Fail;
 /// A line that is refused, the rule that it breaks first, and the place of the word.
 struct Refused(&'static str, WordRule, usize);
 
-const REFUSED: [Refused; 96] = [
+const REFUSED: [Refused; 100] = [
     Refused("", WordRule::NoCommand, 0),
     Refused("copy f.csv", WordRule::BadCommand, 0),
     Refused("load", WordRule::NoFile, 1),
@@ -174,6 +174,18 @@ const REFUSED: [Refused; 96] = [
     Refused("load f.csv explain=true", WordRule::BadOption, 2),
     Refused("batch a.csv,b.csv explain=true", WordRule::BadOption, 2),
     Refused("sniff f.csv explain=1", WordRule::BadValue, 2),
+    Refused("load f.csv same_header=true", WordRule::BadOption, 2),
+    Refused("batch a.csv,b.csv same_header=1", WordRule::BadValue, 2),
+    Refused(
+        "batch a.csv,b.csv same_header=true names=a",
+        WordRule::Conflict,
+        3,
+    ),
+    Refused(
+        "batch a.csv,b.csv header=false same_header=true",
+        WordRule::Conflict,
+        3,
+    ),
     Refused(
         "sniff f.csv explain=true explain=true",
         WordRule::Repeated,

@@ -35,6 +35,7 @@ fn check_other_defaults(rt: &impl Abort, options: &Options) {
     assert_eq!(rt; options.nulls.len(), 0);
     assert_eq!(rt; options.max_errors, None);
     assert!(rt; !options.explain);
+    assert!(rt; !options.same_header);
     assert_eq!(rt; options.to, None);
     assert_eq!(rt; options.table.as_slice(), b"data".as_slice());
 }
