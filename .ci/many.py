@@ -36,10 +36,36 @@ def rows_of(path: pathlib.Path) -> list[list[str]]:
         return list(csv.reader(file))
 
 
-def convert(folder: pathlib.Path, into: pathlib.Path, environment: dict[str, str]) -> tuple[int, str]:
+# Of the second file alone the last column would be a text, and of the third one there would be a column less.
+TYPED = {"a.csv": "zip,n\n00501,1\n", "b.csv": "zip,n\n00502,x\n00503,2\n", "c.csv": "zip\n00504\n"}
+
+
+def convert(folder: pathlib.Path, into: pathlib.Path, environment: dict[str, str], *words: str) -> tuple[int, str]:
     """The status of the script, and what it said."""
-    run = subprocess.run([SCRIPT, folder, into], env=environment, capture_output=True, text=True, timeout=120)
+    run = subprocess.run([SCRIPT, folder, into, *words], env=environment, capture_output=True, text=True, timeout=120)
     return run.returncode, run.stderr
+
+
+def matches_batch(folder: pathlib.Path, into: pathlib.Path, names: list[str], *words: str) -> None:
+    """The rows of all results are those of one batch."""
+    files = ",".join(str(folder / name) for name in names)
+    expected = subprocess.run([os.environ["CSVLOAD"], "batch", files, "ignore_errors=true", *words], capture_output=True, text=True, check=True).stdout
+    rows = [[cell.replace("\n", "\\n") for cell in row] for name in names for row in rows_of(into / name)[1:]]
+    batch = [line.split("|")[1:] for line in expected.splitlines() if line.startswith("row|")]
+    assert rows == batch, (rows, batch)
+
+
+def typed(made: str, environment: dict[str, str]) -> None:
+    """A folder whose types are given by name, and one whose columns are all texts."""
+    folder = pathlib.Path(made, "typed")
+    folder.mkdir()
+    for name, text in TYPED.items():
+        pathlib.Path(folder, name).write_text(text)
+    for word in ("column_types=zip:VARCHAR", "all_varchar=true"):
+        into = pathlib.Path(made, word)
+        status, said = convert(folder, into, environment, word)
+        assert status == 0, (status, said)
+        matches_batch(folder, into, sorted(TYPED), word)
 
 
 def main() -> None:
@@ -63,13 +89,10 @@ def main() -> None:
         status, said = convert(folder, into, environment)
         assert status == 0, (status, said)
 
-        expected = subprocess.run([os.environ["CSVLOAD"], "batch", ",".join(str(folder / name) for name in sorted(FILES)), "ignore_errors=true"],
-                                  capture_output=True, text=True, check=True).stdout
-        rows = [row for name in sorted(FILES) for row in rows_of(into / name)[1:]]
-        batch = [line.split("|")[1:] for line in expected.splitlines() if line.startswith("row|")]
-        assert [[cell.replace("\n", "\\n") for cell in row] for row in rows] == batch, (rows, batch)
+        matches_batch(folder, into, sorted(FILES))
         rejects = rows_of(into / "rejects.csv")
         assert rejects[0][0] == "file" and [[row[0], row[8], row[9]] for row in rejects[1:]] == REJECTS, rejects
+        typed(made, environment)
     print(f"{sys.argv[0]}: {len(FILES)} files by two workers, one killed midway: none lost, none twice")
 
 

@@ -46,7 +46,7 @@ _csvload() {
                 *) [ "${COMP_WORDS[COMP_CWORD - 1]}" = = ] && name=${COMP_WORDS[COMP_CWORD - 2]} || name= ;;
             esac
             case $name in
-                header | all_varchar | allow_quoted_nulls | null_padding | ignore_errors | store_rejects | pipeline | stats | explain)
+                header | all_varchar | allow_quoted_nulls | null_padding | ignore_errors | store_rejects | pipeline | stats | explain | same_header)
                     mapfile -t COMPREPLY < <(compgen -W 'true false' -- "$value")
                     ;;
                 to)
@@ -61,6 +61,7 @@ _csvload() {
                 '')
                     local own=
                     [[ ${COMP_WORDS[1]} == sniff ]] && own=explain=
+                    [[ ${COMP_WORDS[1]} == batch ]] && own=same_header=
                     mapfile -t COMPREPLY < <(compgen -W "delim= quote= escape= comment= header= skip= nullstr= nulls=
                         allow_quoted_nulls= all_varchar= names= types= column_types= sample_size= null_padding=
                         ignore_errors= store_rejects= rejects_limit= max_errors= max_line_size= max_input= threads=

@@ -43,23 +43,28 @@ if [ ! -e "${files[0]}" ]; then
 fi
 
 # The words that fix what was found in the first file stand in one line, cut at bars, and shown with backslashes.
+explained=$("$csvload" sniff "${files[0]}" explain=true "${reading[@]}") || true
 found=()
 while IFS= read -r word; do
     found+=("$(printf %b "$word")")
-done < <("$csvload" sniff "${files[0]}" explain=true "${reading[@]}" | LC_ALL=C awk '/^words\|/ {
+done < <(LC_ALL=C awk '/^words\|/ {
     for (rest = substr($0, 7) "|"; rest != ""; rest = substr(rest, length(part) + 1)) {
         match(rest, /^(\\.|[^\\|])*/)
         part = substr(rest, 1, RLENGTH)
         if (substr(rest, RLENGTH + 1, 1) == "|") { word = part; gsub(/\\\|/, "|", word); print word; part = part "|" }
     }
-}')
+}' <<< "$explained")
 if [ ${#found[@]} -eq 0 ]; then
     echo "${0##*/}: '${files[0]}' can't be read" >&2
     exit 1
 fi
+# They have no types where some are given by name, or all columns are texts: those of the first file's columns stand for them.
+if ! printf '%s\n' "${found[@]}" | grep -q '^types='; then
+    found+=("types=$(awk -F'|' '/^column\|/ { printf "%s%s", comma, $3; comma = "," }' <<< "$explained")")
+fi
 words=("${found[@]}")
 for word in "${reading[@]}"; do
-    if ! gives "$word" "${found[@]%%=*}"; then words+=("$word"); fi
+    if ! gives "$word" "${found[@]%%=*}" column_types all_varchar; then words+=("$word"); fi
 done
 
 todo=()

@@ -16,6 +16,11 @@ NINE = b"fault|input over 9 bytes\n"
 
 F = {"f.csv": b"1,2\n3,4\n5,6\n"}
 
+HEADED = {"h.csv": b"id,v\n1,a\n", "i.csv": b"v,id\nb,2\n"}
+
+# The first row is a header then, and the other two have two faults each.
+DATES = ["types=DATE,DATE", "ignore_errors=true"]
+
 FAULTS = [
     Case(["load", "absent.csv"], 2, "csvload: 'absent.csv' isn't there\n", READ),
     Case(["load", "f.csv/x"], 2, "csvload: 'f.csv/x' isn't there\n", READ, F),
@@ -25,6 +30,22 @@ FAULTS = [
     Case(["load", "f.csv", "max_input=9"], 7, f"csvload: 'f.csv' has more than 9 bytes (max_input); {MOST}\n", NINE, F),
     Case(["batch", "g.csv,f.csv", "max_input=9"], 7, f"csvload: 'f.csv' has more than 9 bytes (max_input); {MOST}\n", NINE, {**F, "g.csv": b"1,2\n"}),
     Case(["load", "-", "max_input=9"], 7, f"csvload: standard input has more than 9 bytes (max_input); {MOST}\n", NINE, {}, b"1,2\n3,4\n5,6\n"),
+    Case(["load", "f.csv", "column_types=n:DATE"], 4, "csvload: no column is named 'n': the columns are column0, column1\n", b"fault|no column n\n", F),
+    Case(
+        ["batch", "h.csv,h.csv,i.csv", "same_header=true"],
+        4,
+        "csvload: 'i.csv' hasn't the header of 'h.csv', whose columns are id, v\n",
+        b"fault|other header in i.csv\n",
+        HEADED,
+    ),
+    Case(
+        ["convert", "f.csv", *DATES, "max_errors=3"],
+        9,
+        "csvload: 'f.csv' has more than 3 faults (max_errors): csvload rejects f.csv lists them\n",
+        b"fault|over 3 faults\n",
+        F,
+    ),
+    Case(["batch", "f.csv,f.csv", *DATES, "max_errors=7"], 9, "csvload: the files have more than 7 faults (max_errors)\n", b"fault|over 7 faults\n", F),
     Case(["load", b"\xff.csv"], 8, "csvload: a word isn't UTF-8; a file of such a name is read by csvload load - <FILE\n", b""),
 ]
 

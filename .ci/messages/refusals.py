@@ -110,6 +110,18 @@ CONFLICTS = [
         "column_types=zip:DATE and all_varchar=true can't stand together: all columns are VARCHAR then",
     ),
     conflict(["nullstr=x", "nulls=NA,"], 3, "nulls=NA, and nullstr=x can't stand together: nulls takes all the texts"),
+    conflict(
+        ["same_header=true", "names=a,b"],
+        3,
+        "same_header=true and names=a,b can't stand together: given names are no header's",
+        "batch",
+    ),
+    conflict(
+        ["header=false", "same_header=true"],
+        3,
+        "same_header=true and header=false can't stand together: there is no header then",
+        "batch",
+    ),
     conflict(["max_errors=5"], 2, "max_errors=5 wants ignore_errors=true or store_rejects=true"),
     conflict(["names=a,b", "types=DATE"], 3, "names gives 2 and types 1: as many of each are wanted"),
     conflict(["quote=;", "delim=;"], 3, "delim=; and quote=; are the same character"),
