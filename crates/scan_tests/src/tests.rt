@@ -6,6 +6,7 @@ mod quote_automaton_states;
 mod range_guess_cuts;
 mod range_scan_numbers;
 mod range_scan_one_look;
+mod range_scan_parts;
 mod range_scan_ranges;
 mod reject_book_books;
 mod reject_book_steps;

@@ -1,5 +1,6 @@
 //! Rows of a sample that tell another story than those before them.
-use super::csv_sniffer_inputs::{Found, check_found};
+use super::csv_sniffer_inputs::check_found;
+use super::csv_sniffer_inputs::found::Found;
 use csv_sniffer::Newline;
 use std::test::Fail;
 
