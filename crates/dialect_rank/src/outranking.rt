@@ -1,17 +1,17 @@
 //! A candidate that can't be above the best one so far isn't scored.
 ghost use Rattle.std.specs.Prelude.{◌≡◌, ◌&&◌, ◌==◌, false, slice_get, IfOk};
 ghost use Rattle.std.specs.Option.{option_map};
-ghost use Rattle.dialect_rank.specs.Absent.{absent_in};
 ghost use Rattle.dialect_rank.specs.Rank.{is_above, is_table};
 ghost use Rattle.dialect_rank.specs.Ranked.{higher, ranked_of};
 ghost use Rattle.dialect_rank.specs.Sampled.{sampled_rows};
 ghost use Rattle.dialect_rank.specs.Score.{field_count, score_of};
 
 use crate::best_place::{is_above, is_table, is_well_quoted};
-use crate::quote_search::{AbsentQuotes, absent_quotes, may_quote};
+use crate::quote_search::may_quote;
 use crate::ranked::{Ranked, rank};
 use crate::sampling::Walk;
 use crate::scores::Score;
+use crate::searched_sample::SearchedSample;
 use byte_classes::Dialect;
 use csv_source::NoMemory;
 use row_fields::Fields;
@@ -47,57 +47,28 @@ fn first_count(
 fn can_outrank(
     alloc: Global,
     dialect: &Dialect,
-    sample: &[u8],
-    whole: bool,
-    sample_size: u64,
+    sample: &SearchedSample<'_>,
     best: &Score,
-    absent: AbsentQuotes,
 ) -> Result<bool, NoMemory>
-    requires known { absent ≡ absent_in sample.now }
-    ensures { IfOk result (λ can. can ≡ false → is_above (score_of dialect.now sample.now whole sample_size) best.now ≡ false) }
+    ensures { IfOk result (λ can. can ≡ false
+        → is_above (score_of dialect.now sample.now.bytes.now sample.now.whole sample.now.sample_size) best.now ≡ false) }
 {
     if !is_perfect(best) {
         return Ok(true);
     }
-    if !is_well_quoted(best) && may_quote(dialect, sample, absent) {
+    if !is_well_quoted(best) && may_quote(dialect, sample.bytes, sample.absent) {
         return Ok(true);
     }
-    match first_count(alloc, dialect, sample, whole, sample_size)? {
+    match first_count(
+        alloc,
+        dialect,
+        sample.bytes,
+        sample.whole,
+        sample.sample_size,
+    )? {
         Some(count) => Ok(best.mode < count as u64),
         None => Ok(true),
     }
-}
-
-/// The best dialect so far, or another one where its score is above. The quotes that the sample doesn't have are given, so
-/// that the sample is searched for them once and not for each candidate.
-pub fn higher_given(
-    alloc: Global,
-    best: Ranked,
-    dialect: &Dialect,
-    sample: &[u8],
-    whole: bool,
-    sample_size: u64,
-    absent: AbsentQuotes,
-) -> Result<Ranked, NoMemory>
-    requires known { absent ≡ absent_in sample.now }
-    ensures { IfOk result (λ ranked. ranked ≡ higher best (ranked_of dialect.now sample.now whole sample_size)) }
-{
-    if !can_outrank(
-        alloc,
-        dialect,
-        sample,
-        whole,
-        sample_size,
-        &best.score,
-        absent,
-    )? {
-        return Ok(best);
-    }
-    let other = rank(alloc, dialect, sample, whole, sample_size)?;
-    if is_above(&other.score, &best.score) {
-        return Ok(other);
-    }
-    Ok(best)
 }
 
 /// The best dialect so far, or another one where its score is above.
@@ -105,12 +76,22 @@ pub fn higher(
     alloc: Global,
     best: Ranked,
     dialect: &Dialect,
-    sample: &[u8],
-    whole: bool,
-    sample_size: u64,
+    sample: &SearchedSample<'_>,
 ) -> Result<Ranked, NoMemory>
-    ensures { IfOk result (λ ranked. ranked ≡ higher best (ranked_of dialect.now sample.now whole sample_size)) }
+    ensures { IfOk result (λ ranked. ranked ≡ higher best (ranked_of dialect.now sample.now.bytes.now sample.now.whole sample.now.sample_size)) }
 {
-    let absent = absent_quotes(sample);
-    higher_given(alloc, best, dialect, sample, whole, sample_size, absent)
+    if !can_outrank(alloc, dialect, sample, &best.score)? {
+        return Ok(best);
+    }
+    let other = rank(
+        alloc,
+        dialect,
+        sample.bytes,
+        sample.whole,
+        sample.sample_size,
+    )?;
+    if is_above(&other.score, &best.score) {
+        return Ok(other);
+    }
+    Ok(best)
 }

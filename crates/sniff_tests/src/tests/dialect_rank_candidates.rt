@@ -7,7 +7,7 @@ use super::words::options_of;
 use byte_classes::Dialect;
 use csv_source::NoMemory;
 use dialect_rank::{
-    absent_quotes, best, candidates, higher, higher_given, rank, sample_rows, score,
+    SearchedSample, absent_quotes, best, candidates, higher, rank, sample_rows, score,
 };
 use load_options::Options;
 use std::alloc::Global;
@@ -156,10 +156,11 @@ fn the_higher_of_two_is_kept(rt: HostRuntime) -> Result<(), Fail> {
     let bar = dialect(&rt, b'|', b'"', b'"');
     let first = rank(alloc, &comma, text, true, 20_480)?;
     assert_eq!(rt; (first.score.mode, first.score.agree), (3, 3));
-    let second = higher(alloc, first, &bar, text, true, 20_480)?;
+    let sample = SearchedSample::new(text, true, 20_480);
+    let second = higher(alloc, first, &bar, &sample)?;
     assert_eq!(rt; second.dialect, bar);
     assert_eq!(rt; (second.score.mode, second.score.agree), (4, 4));
-    let third = higher(alloc, second, &comma, text, true, 20_480)?;
+    let third = higher(alloc, second, &comma, &sample)?;
     assert_eq!(rt; third.dialect, bar);
     Ok(())
 }
@@ -180,15 +181,15 @@ fn quotes_that_a_sample_does_not_have_are_known(rt: HostRuntime) -> Result<(), F
 fn quotes_raise_a_dialect_above_one_without(rt: HostRuntime) -> Result<(), Fail> {
     let alloc = rt.alloc();
     let text = b"a,b;c\n'x';'y,z'\n'u';'v,w'\n";
-    let absent = absent_quotes(text);
+    let sample = SearchedSample::new(text, true, 20_480);
     let comma = dialect(&rt, b',', b'"', b'"');
     let double = dialect(&rt, b';', b'"', b'"');
     let single = dialect(&rt, b';', b'\'', b'\'');
     let first = rank(alloc, &comma, text, true, 20_480)?;
     assert_eq!(rt; (first.score.agree, first.score.closed), (3, 0));
-    let second = higher_given(alloc, first, &double, text, true, 20_480, absent)?;
+    let second = higher(alloc, first, &double, &sample)?;
     assert_eq!(rt; second.dialect, comma);
-    let third = higher_given(alloc, second, &single, text, true, 20_480, absent)?;
+    let third = higher(alloc, second, &single, &sample)?;
     assert_eq!(rt; third.dialect, single);
     Ok(())
 }

@@ -1,6 +1,7 @@
-use Rattle.std.proofs.Common.{arith}
+use Rattle.std.proofs.Common.{◌∙◌, arith}
 use Rattle.std.specs.Prelude.{None}
 use Rattle.dialect_rank.specs.Candidates.{with_delim, no_quote}
+use Rattle.dialect_rank.specs.Ranked.{higher, ranked_of}
 use Rattle.csv_sniffer.proofs.BestRanked.{best_of_all, best_of_more, best_of_one}
 use Rattle.csv_sniffer.proofs.chosen.best_of.Goals as goal
 
@@ -11,8 +12,10 @@ loop-place-init c =
 pub loop-place-preserved : goal.loop-place-preserved
 loop-place-preserved c =
     let so = c.loop-place.invariant in
-    best_of_more c.args.sample.now c.args.whole c.args.sample_size c.args.candidates.now (with_delim None 44 no_quote) c.loop-place.place c.loop-place.best _ c.get-dialect.result c.get-dialect.ensures
-    so.0 so.1 so.2 c.in_ok-best-2.ensures
+    let searched = c.new-searched.ensures in
+    let new = c.in_ok-best-2.ensures ∙ (λ i. higher c.loop-place.best (ranked_of c.get-dialect.result (searched.bytes i) (searched.whole i) (searched.size i))) in
+    best_of_more c.args.sample.now c.args.whole c.args.sample_size c.args.candidates.now (with_delim None 44 no_quote) c.loop-place.place c.loop-place.best c.in_ok-best-2.best c.get-dialect.result c.get-dialect.ensures
+    so.0 so.1 so.2 new
 
 pub returns : goal.returns
 returns c =

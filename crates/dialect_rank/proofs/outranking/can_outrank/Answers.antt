@@ -8,9 +8,9 @@ use Rattle.dialect_rank.proofs.outranking.can_outrank.Goals.{else-not-is_well_qu
 pub returns-in-Some : goal.returns-in-Some
 returns-in-Some c =
     let d = c.args.dialect.now in
-    let sample = c.args.sample.now in
-    let whole = c.args.whole in
-    let size = c.args.sample_size in
+    let sample = c.args.sample.now.bytes.now in
+    let whole = c.args.sample.now.whole in
+    let size = c.args.sample.now.sample_size in
     let best = c.args.best.now in
     let perfect = sym c.is_perfect.ensures ∙ c.if-not-is_perfect.false in
     let quoted : truth_number (is_well_quoted (score_of d sample whole size)) ≤ truth_number (is_well_quoted best) = elim c.else-not-is_well_quoted.branch [
