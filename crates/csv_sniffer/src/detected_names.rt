@@ -76,7 +76,6 @@ pub fn detected_names(
     rows: &SampledRows,
     header: bool,
     columns: usize,
-    fields: &mut Fields,
 ) -> Result<Names, NoMemory>
     requires rows { AreRows rows.now.dialect rows.now.sample.now rows.now.spans }
     requires some { header ≡ true → 0 < length rows.now.spans }
@@ -84,12 +83,13 @@ pub fn detected_names(
     ensures { let row = first_if header (row_texts rows.now.sample.now rows.now.spans) in
         IfOk result (λ names. names ≡ detected_names rows.now.dialect columns row) }
 {
-    let row = header_row(rows, header, fields)?;
+    let mut fields = Fields::new(alloc);
+    let row = header_row(rows, header, &mut fields)?;
     let mut names = Names::new(alloc);
     let mut taken = HashSet::new(alloc);
     let mut numbers = HashMap::new(alloc);
     for column in 0..columns {
-        let wanted = wanted_name(alloc, row, fields, column)?;
+        let wanted = wanted_name(alloc, row, &fields, column)?;
         let name = first_free(alloc, &taken, &mut numbers, wanted)?;
         names.push(&name)?;
         taken.insert(name)?;

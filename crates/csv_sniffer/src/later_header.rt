@@ -46,7 +46,7 @@ fn names_columns(alloc: Global, found: &Sniffed, rows: &SampledRows) -> Result<b
     if fields.count() > columns {
         return Ok(false);
     }
-    let names = detected_names(alloc, rows, true, columns, &mut fields)?;
+    let names = detected_names(alloc, rows, true, columns)?;
     Ok(are_same(&names, &found.names))
 }
 
