@@ -37,7 +37,7 @@ fn first_count(
     let mut fields = Fields::new(alloc);
     let mut walk = Walk::new(sample_size);
     match walk.next(dialect, sample, whole, &mut fields)? {
-        Some(_) => Ok(Some(fields.count())),
+        Some(row) => Ok(Some(row.shape.fields)),
         None => Ok(None),
     }
 }

@@ -10,7 +10,7 @@ use crate::lists::Spans;
 use crate::most_frequent::most_frequent;
 use crate::sampling::Walk;
 use crate::scores::Score;
-use crate::shape::{RowShape, closed_fields, shape_of};
+use crate::shape::RowShape;
 use byte_classes::Dialect;
 use csv_source::NoMemory;
 use row_fields::Fields;
@@ -49,10 +49,10 @@ fn read_shapes(
     let mut spans = Spans::new(alloc);
     let mut closed: u64 = 0;
     let mut walk = Walk::new(sample_size);
-    while let Some(span) = walk.next(dialect, sample, whole, &mut fields)? {
-        rows.push(shape_of(&fields))?;
-        spans.push(span)?;
-        closed += closed_fields(&fields) as u64;
+    while let Some(row) = walk.next(dialect, sample, whole, &mut fields)? {
+        rows.push(row.shape)?;
+        spans.push((row.from, row.end))?;
+        closed += row.closed as u64;
     }
     Ok(Shapes {
         rows,
