@@ -154,7 +154,7 @@ module _ (text more : List ℕ) (count : ℕ) (long : length text ≡ count) (so
     zeros_below (8 - count) (map worth text) (worths_below text fitting),
   )
 
-  tested : list_all is_worth_of_digit (behind_zeros count text) ≡ list_all is_ascii_digit text
+  pub tested : list_all is_worth_of_digit (behind_zeros count text) ≡ list_all is_ascii_digit text
   tested = zeros_digits (8 - count) (map worth text) ∙ worths_digits text fitting
 
   pub natural-digits : list_all is_worth_of_digit (behind_zeros count text) ≡ true → Some (spelled (behind_zeros count text)) ≡ natural_of text

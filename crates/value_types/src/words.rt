@@ -134,12 +134,23 @@ pub(crate) fn digit_count(word: u64) -> usize
     others.trailing_zeros() as usize / 8
 }
 
-/// The number that so many bytes at a place spell.
+/// The number that the digits at the front of a word spell.
 #[inline(always)]
-pub(crate) fn counted_digits(bytes: &[u8], from: usize, count: usize) -> Option<u64>
+fn front_number(word: u64, count: usize) -> u64
+    requires few { (0 < count) × (count ≤ 8) }
+    ensures { (text : List ℕ) → length text ≡ count → BeginsWord text word → list_all is_ascii_digit text ≡ true → (natural_of text ≡ Some result) × (result < 100_000_000) }
+{
+    number(worths(word, count))
+}
+
+/// The number that so many digits at a place spell. They have been seen to be digits, so that none is looked at again.
+#[inline(always)]
+pub(crate) fn digits_at(bytes: &[u8], from: usize, count: usize) -> u64
     requires few { (0 < count) × (count ≤ 8) }
     requires within { from + 8 ≤ length bytes.now }
-    ensures { IfSome result (λ number. (natural_of (slice_range bytes.now from (from + count)) ≡ Some number) × (number < 100_000_000)) }
+    requires digits { list_all is_ascii_digit (slice_range bytes.now from (from + count)) ≡ true }
+    ensures value { natural_of (slice_range bytes.now from (from + count)) ≡ Some result }
+    ensures small { result < 100_000_000 }
 {
-    natural(word_at(bytes, from), count)
+    front_number(word_at(bytes, from), count)
 }

@@ -1,12 +1,12 @@
 // A number of 64 bits at the front of a text that goes on behind it, as a field in its row.
-ghost use Rattle.std.specs.Prelude.{◌≡◌, ◌≤◌, ◌<◌, ◌^◌, false, true, length, slice_index, slice_range, IfSome, Some};
+ghost use Rattle.std.specs.Prelude.{◌≡◌, ◌≤◌, ◌<◌, ◌+◌, ◌^◌, false, true, length, slice_index, slice_range, IfSome, Some};
 ghost use Rattle.std.specs.Char.{is_ascii_digit};
 ghost use Rattle.std.specs.List.{list_all};
 ghost use Rattle.value_types.specs.Cast.{bigint_of, trimmed};
 ghost use Rattle.value_types.specs.Digits.{is_numeral, natural_of};
 
-use crate::bigint_in::{digits_in, negated};
-use crate::words::{counted_digits, digit_count, word_at};
+use crate::bigint_in::negated;
+use crate::words::{digit_count, digits_at, word_at};
 
 /// A number that the bytes from a place on spell, and the place behind its last digit.
 #[derive(Clone, Copy, Debug, PartialEq, Eq)]
@@ -29,6 +29,22 @@ pub fn is_numeral(byte: u8) -> bool
     byte.is_ascii_digit() || byte == b'-'
 }
 
+/// The number that eight digits at a place spell with up to seven behind them.
+#[inline(always)]
+fn long_number(bytes: &[u8], from: usize, more: usize) -> u64
+    requires few { more < 8 }
+    requires within { from + 16 ≤ length bytes.now }
+    requires digits { list_all is_ascii_digit (slice_range bytes.now from (from + 8 + more)) ≡ true }
+    ensures value { natural_of (slice_range bytes.now from (from + 8 + more)) ≡ Some result }
+    ensures small { result < 2 ^ 63 }
+{
+    let back = digits_at(bytes, from + more, 8);
+    if more == 0 {
+        return back;
+    }
+    digits_at(bytes, from, more) * 100_000_000 + back
+}
+
 /// The digits from a place on, where they are one to fifteen. None also near the bytes' end, where no word can be read.
 #[inline(always)]
 fn digits_front(bytes: &[u8], from: usize) -> Option<FrontDigits>
@@ -45,9 +61,8 @@ fn digits_front(bytes: &[u8], from: usize) -> Option<FrontDigits>
         return None;
     }
     if count < 8 {
-        let number = counted_digits(bytes, from, count)?;
         return Some(FrontDigits {
-            number,
+            number: digits_at(bytes, from, count),
             end: from + count,
         });
     }
@@ -55,9 +70,10 @@ fn digits_front(bytes: &[u8], from: usize) -> Option<FrontDigits>
     if more == 8 {
         return None;
     }
-    let end = from + 8 + more;
-    let number = digits_in(bytes, from, end)?;
-    Some(FrontDigits { number, end })
+    Some(FrontDigits {
+        number: long_number(bytes, from, more),
+        end: from + 8 + more,
+    })
 }
 
 /// The number that digits from a place on spell, behind a minus if one is there, as many digits as stand there. None where
