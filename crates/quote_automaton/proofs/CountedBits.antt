@@ -49,10 +49,6 @@ digit (suc (suc n)) lt = absurd (let no : ⊥ = omega (arith, lt) in no)
 pub bit_is : (m i : ℕ) → bit_at m i ≡ cond (is_set m i) 1 0
 bit_is m i = digit (bit_at m i) (bit_at-lt m i)
 
-pub clear_is : (b : Bool) → cond {A = ℕ} b 1 0 ≡ 0 → b ≡ false
-clear_is true h = absurd (let no : ⊥ = omega (arith, h) in no)
-clear_is false h = refl
-
 -- where a byte outside quotes is out of its place
 pub misplaced_is : (inside comments behind_quotes behind_ends quotes ends i : ℕ) → inside < 2 ^ 64 → behind_quotes < 2 ^ 64 → behind_ends < 2 ^ 64 → quotes < 2 ^ 64 → ends < 2 ^ 64 → i < 64 →
     bit_at (bit_and (bit_not w64 inside) (bit_or comments (bit_or (bit_and behind_quotes (bit_not w64 (bit_or ends quotes))) (bit_and quotes (bit_not w64 (bit_or behind_quotes behind_ends)))))) i

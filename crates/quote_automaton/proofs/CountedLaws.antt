@@ -10,10 +10,11 @@ use Rattle.byte_classes.specs.Class.{class_of}
 use Rattle.byte_classes.specs.Dialect.{Marks, IsDialect}
 use Rattle.byte_classes.specs.Masks.{HasBits}
 use Rattle.byte_classes.specs.Special.{is_one_of}
+use Rattle.byte_classes.proofs.BitLaws.{is_clear}
 use Rattle.quote_automaton.specs.declared.state.State.{State}
 use Rattle.quote_automaton.specs.Automaton.{step, state_after, IsDoubling}
 use Rattle.quote_automaton.specs.Counted.{bit_behind, counted, is_misplaced, is_set, toggled}
-use Rattle.quote_automaton.proofs.CountedBits.{bit_is, clear_is, odd_is, set_is}
+use Rattle.quote_automaton.proofs.CountedBits.{bit_is, odd_is, set_is}
 use Rattle.quote_automaton.proofs.CountedStep.{counted_step}
 use Rattle.quote_automaton.proofs.Running.{state_step}
 
@@ -66,7 +67,7 @@ module _ (d : Marks) (q : ℕ) (bytes : List ℕ) (at : ℕ) (first : Bool) (las
       (get_or bytes (at + i) 0 == q) (is_one_of 10 13 d.delim (get_or bytes (at + i) 0)) ≡ false
   placed i lt =
       let told : is_misplaced (is_set inside i) (is_set comments i) (is_set behind_quotes i) (is_set behind_ends i) (is_set quotes i) (is_set ends i) ≡ false =
-      clear_is _ (sym (is_wrong i lt) ∙ (ap (λ (m : ℕ). bit_at m i) none_wrong ∙ bit_at-zero i)) in
+      is_clear _ (sym (is_wrong i lt) ∙ (ap (λ (m : ℕ). bit_at m i) none_wrong ∙ bit_at-zero i)) in
       (λ j. is_misplaced (sym (inside_is i lt) j) (sym (here (λ b. b == unwrap_or d.comment q && not (b == q)) comments i has_comments lt) j)
       (sym (before (λ b. b == q) quotes behind_quotes i has_quotes after_quotes lt) j) (sym (before (is_one_of 10 13 d.delim) ends behind_ends i has_ends after_ends lt) j)
       (sym (here (λ b. b == q) quotes i has_quotes lt) j) (sym (here (is_one_of 10 13 d.delim) ends i has_ends lt) j))

@@ -2,7 +2,7 @@
 use Rattle.std.proofs.Common.{◌≡◌, ℕ, ◌+◌, ◌<◌, ◌≤◌, Bool, true, false, ◌||◌, cond, List, length, get_or, refl, sym, ◌∙◌, ap, subst, inl, inr, ◌⊎◌, arith}
 use Rattle.std.specs.Prelude.{◌==◌, Option, Some, None}
 use Rattle.std.specs.Option.{option_eq}
-use Rattle.std.proofs.lemmas.Bool.{eqb-true, eqb-false, ne_eqb}
+use Rattle.std.proofs.lemmas.Bool.{eqb-true, eqb-false, ne_eqb, cases_lt}
 use lib.Dec.{eqb}
 use Rattle.byte_classes.specs.declared.class.Class.{Class}
 use Rattle.byte_classes.specs.declared.class.Class.TheVariants as class
@@ -21,9 +21,6 @@ use Rattle.row_fields.proofs.Roles.{is_last_quote, is_quote_before}
 thrice : (t : Bool) → ((t || t) || t) ≡ t
 thrice true = refl
 thrice false = refl
-
-lt_or_le : (a b : ℕ) → (a < b) ⊎ (b ≤ a)
-lt_or_le a b = grind arith
 
 module _ (d : Marks) (q : ℕ) (dialect : IsDialect d) (h : IsDoubling d q) where
   -- inside quotes the quote alone is special
@@ -56,7 +53,7 @@ module _ (d : Marks) (q : ℕ) (dialect : IsDialect d) (h : IsDoubling d q) wher
 
   pub closing_role : (bytes : List ℕ) (at : ℕ) → class_of d (get_or bytes at 0) ≡ class.Quote → at < length bytes →
       (at + 1 < length bytes → is_special false (class_of d (get_or bytes (at + 1) 0)) ≡ true) → HasRole d bytes at role.Close
-  closing_role bytes at quote within ends = elim (lt_or_le (at + 1) (length bytes)) [
+  closing_role bytes at quote within ends = elim (cases_lt (at + 1) (length bytes)) [
     | inl lt ↦ subst (HasRole d bytes at) (closing_class (class_of d (get_or bytes (at + 1) 0)) (ends lt)) (is_quote_before d bytes at quote lt)
     | inr le ↦ is_last_quote d bytes at quote within (omega (arith, within, le))
   ]

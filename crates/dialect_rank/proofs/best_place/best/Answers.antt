@@ -1,16 +1,12 @@
 use Rattle.std.proofs.Common.{◌≡◌, ℕ, ◌+◌, ◌<◌, List, length, get_or, sym, subst, ◌∙◌, arith}
-use Rattle.std.specs.Cmp.{IsStrictWeakOrder}
 use Rattle.std.specs.List.{IsFirstBest}
 use Rattle.std.proofs.lemmas.List.{get_or_default}
 use Rattle.std.proofs.lemmas.List.MinMax.{IsFirstBest-keeps, IsFirstBest-takes, IsFirstBest-unique}
 use Rattle.dialect_rank.specs.declared.scores.Score.{Score}
 use Rattle.dialect_rank.specs.Rank.{is_above, best_place}
-use Rattle.dialect_rank.proofs.RankLaws.{is_above-back, is_above-trans, best_is_first_highest}
+use Rattle.dialect_rank.proofs.RankLaws.{is_ranked, best_is_first_highest}
 use Rattle.dialect_rank.proofs.best_place.best.Goals as goal
 use Rattle.dialect_rank.proofs.best_place.best.Goals.{then-is_above, else-is_above}
-
-is_ranked : IsStrictWeakOrder is_above
-is_ranked = record { one_way = is_above-back; chain = is_above-trans }
 
 abbrev no_score : Score
 no_score = record { rows = 0; mode = 0; agree = 0; closed = 0; flawed = 0 }

@@ -1,17 +1,13 @@
 -- A byte of a row ends it, or is another one of it.
-use Rattle.std.proofs.Common.{◌≡◌, ℕ, Bool, true, false, cond, refl, arith}
-use Rattle.std.proofs.lemmas.Bool.Decides.{nat_tests}
-use Rattle.std.specs.Prelude.{◌&&◌, ◌==◌, MatchBool, ⊤}
+use Rattle.std.proofs.Common.{◌≡◌, true, false, cond, refl}
+use Rattle.std.specs.Prelude.{MatchBool, ⊤}
 use Rattle.byte_classes.specs.declared.class.Class.{Class}
 use Rattle.byte_classes.specs.declared.class.Class.TheVariants as class
-use Rattle.byte_classes.specs.Dialect.{Marks, is_byte}
-use Rattle.byte_classes.specs.Class.{class_of}
+use Rattle.byte_classes.specs.Dialect.{Marks}
 use Rattle.quote_automaton.specs.declared.state.State.{State}
 use Rattle.quote_automaton.specs.declared.state.State.TheVariants.{RowStart, FieldStart, Plain, Quoted, Escape, QuoteSeen, Broken, CrSeen, Comment}
 use Rattle.quote_automaton.specs.Automaton.{next, doubles_quotes}
 use Rattle.quote_automaton.specs.Rows.{begins_row, ends_row}
-
--- ---- at the byte that ends a row
 
 -- a state between the first byte of a row and its end, or of a comment line
 abbrev pub IsInRow : State → Type 0
@@ -47,7 +43,7 @@ none_begins QuoteSeen c inside = refl
 none_begins Broken c inside = refl
 
 -- a byte ends the row, or is another one of it
-abbrev EndsOrStays : Marks → State → Class → Type 0
+abbrev pub EndsOrStays : Marks → State → Class → Type 0
 EndsOrStays d s c = MatchBool (ends_row s c) (IsBehind c (next d s c)) (IsInRow (next d s c))
 
 pub ends_or_stays : (d : Marks) (s : State) (c : Class) → IsInRow s → EndsOrStays d s c
@@ -112,45 +108,3 @@ starts_or_ends d class.Quote = tt
 starts_or_ends d class.Escape = tt
 starts_or_ends d class.Comment = tt
 starts_or_ends d class.Other = tt
-
--- ---- which bytes end a line
-
-by_tests : Bool → Bool → Bool → Bool → Bool → Bool → Class
-by_tests lf cr delim quote escape comment = cond lf class.Lf (cond cr class.Cr (cond delim class.Delim (cond quote class.Quote (cond escape class.Escape (cond comment class.Comment class.Other)))))
-
-lf_passes : (lf cr delim quote escape comment : Bool) → by_tests lf cr delim quote escape comment ≡ class.Lf → lf ≡ true
-unfolding by_tests
-lf_passes true cr delim quote escape comment h = refl
-lf_passes false true delim quote escape comment h = absurd (let no : ⊥ = cc in no)
-lf_passes false false true quote escape comment h = absurd (let no : ⊥ = cc in no)
-lf_passes false false false true escape comment h = absurd (let no : ⊥ = cc in no)
-lf_passes false false false false true comment h = absurd (let no : ⊥ = cc in no)
-lf_passes false false false false false true h = absurd (let no : ⊥ = cc in no)
-lf_passes false false false false false false h = absurd (let no : ⊥ = cc in no)
-
-cr_passes : (lf cr delim quote escape comment : Bool) → by_tests lf cr delim quote escape comment ≡ class.Cr → cr ≡ true
-unfolding by_tests
-cr_passes true cr delim quote escape comment h = absurd (let no : ⊥ = cc in no)
-cr_passes false true delim quote escape comment h = refl
-cr_passes false false true quote escape comment h = absurd (let no : ⊥ = cc in no)
-cr_passes false false false true escape comment h = absurd (let no : ⊥ = cc in no)
-cr_passes false false false false true comment h = absurd (let no : ⊥ = cc in no)
-cr_passes false false false false false true h = absurd (let no : ⊥ = cc in no)
-cr_passes false false false false false false h = absurd (let no : ⊥ = cc in no)
-
-pub lf_is : (d : Marks) (b : ℕ) → class_of d b ≡ class.Lf → b == 10 ≡ true
-unfolding by_tests
-lf_is d b h = lf_passes (b == 10) (b == 13) (b == d.delim) (is_byte d.quote b) (is_byte d.escape b) (is_byte d.comment b) h
-
-pub cr_is : (d : Marks) (b : ℕ) → class_of d b ≡ class.Cr → b == 13 ≡ true
-unfolding by_tests
-cr_is d b h = cr_passes (b == 10) (b == 13) (b == d.delim) (is_byte d.quote b) (is_byte d.escape b) (is_byte d.comment b) h
-
-pub no_pair : (b c : ℕ) → b == 10 ≡ true → (b == 13 && (c == 10)) ≡ false
-no_pair b c h = grind (arith, nat_tests)
-
-pub lone_cr : (b c : ℕ) → c == 10 ≡ false → (b == 13 && (c == 10)) ≡ false
-lone_cr b c h = grind (arith, nat_tests)
-
-pub pair : (b c : ℕ) → b == 13 ≡ true → c == 10 ≡ true → (b == 13 && (c == 10)) ≡ true
-pair b c h k = λ i. h i && (k i)
