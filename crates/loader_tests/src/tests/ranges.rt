@@ -1,8 +1,5 @@
 //! Rows, guesses and line ends cut between ranges.
-use crate::{
-    Case, IN_PIECES, OPT, OPT_NO_LINE_END, repeated, reply_to, words_of, wrong_case,
-    wrong_case_with, wrong_cut,
-};
+use crate::{Case, OPT, OPT_NO_LINE_END, wrong_case, wrong_case_with, wrong_cut};
 use std::test::Fail;
 
 const RANGES: [Case; 7] = [
@@ -199,35 +196,5 @@ const OVER_LINES_LOADED: [Case; 2] = [
 #[test]
 fn no_ranges_change_the_reply(rt: HostRuntime) -> Result<(), Fail> {
     assert_eq!(rt; wrong_cut(&rt, rt.alloc(), &OVER_LINES_LOADED, 16)?, None);
-    Ok(())
-}
-
-const SEVENS_SUMMED: &[u8] = b"options|delim=,|quote=\"|escape=\"|newline=\\n|skip=0|header=false\n\
-column|0|BIGINT|column0\n\
-rows|50000\n\
-errors|0|0\n\
-tap|count|50000|50000\n\
-tap|span|0|7|7\n\
-tap|distinct|0\n\
-stats|ranges=100000|rescans=0|scanned=100000\n";
-
-#[test]
-fn ranges_of_one_byte_take_no_quadratic_time(rt: HostRuntime) -> Result<(), Fail> {
-    let input = repeated(rt.alloc(), b"7\n", 50_000)?;
-    let words: &[&str] = &[
-        "summary",
-        "f.csv",
-        "delim=,",
-        "quote=\"",
-        "escape=\"",
-        "header=false",
-        "types=BIGINT",
-        "range_size=1",
-        "stats=true",
-    ];
-    let words = words_of(rt.alloc(), words)?;
-    let reply = reply_to(&rt, rt.alloc(), &words, &input, IN_PIECES)?;
-    assert_eq!(rt; reply.status(), 0);
-    assert_eq!(rt; reply.text(), SEVENS_SUMMED);
     Ok(())
 }
