@@ -2,7 +2,8 @@
 use Rattle.std.specs.Prelude.{◌≡◌, ℕ, ◌≤◌, List, Option}
 use Rattle.csv_source.specs.Causes.{Rose}
 use Rattle.csv_loader.specs.declared.ending.Ending.{Ending}
-use Rattle.csv_loader.specs.Ending.{ending_code}
+use Rattle.csv_loader.specs.declared.status.Status.TheVariants as statuses
+use Rattle.csv_loader.specs.Ending.{ending_code, status_code}
 use Rattle.csv_loader.specs.Reply.{reply_of}
 use Rattle.csv_loader.specs.Headline.{EndsAs, EndsForSome, IsAnswer, IsStatus, Writes, WritesForSome, IsReadFault, WritesPart, IsReplyOrNoMemory, ReadsFile, LeavesBehindLimit}
 use Rattle.column_taps.specs.Seen.{Seen}
@@ -26,15 +27,15 @@ pub record IsRun (taps : List Seen) (words : List (List ℕ)) (source source_aft
   pub some_files : IsAnswer (ending_code end) → WritesForSome words taps (ending_code end) sink.taken sink_after.taken
   pub some_ending : IsAnswer (ending_code end) → EndsForSome words taps end sink.taken sink_after.taken
   -- a read fault comes only where the source failed or hasn't the file that decides, and its line is written
-  pub read_fault : ending_code end ≡ 2
+  pub read_fault : ending_code end ≡ status_code statuses.ReadFault
       → IsReadFault (reply_of words source.held taps) source.faults source_after.faults sink.taken sink_after.taken
-  pub read_fault_of_file : ending_code end ≡ 2 → ReadsFile words
+  pub read_fault_of_file : ending_code end ≡ status_code statuses.ReadFault → ReadsFile words
   -- a write fault comes only where the sink failed, and a front of the text is written
-  pub write_fault : ending_code end ≡ 5 → Rose sink.faults sink_after.faults
-  pub write_fault_text : ending_code end ≡ 5
+  pub write_fault : ending_code end ≡ status_code statuses.WriteFault → Rose sink.faults sink_after.faults
+  pub write_fault_text : ending_code end ≡ status_code statuses.WriteFault
       → WritesPart (reply_of words source.held taps) source.faults source_after.faults sink.taken sink_after.taken
   -- want of memory writes nothing
-  pub no_memory : ending_code end ≡ 6 → sink_after.taken ≡ sink.taken
+  pub no_memory : ending_code end ≡ status_code statuses.NoMemory → sink_after.taken ≡ sink.taken
   -- no other status comes; where nothing failed, it is that of the one-pass reading, or want of memory
   pub no_other : IsStatus (ending_code end)
   pub steady : ¬ Rose source.faults source_after.faults → ¬ Rose sink.faults sink_after.faults
