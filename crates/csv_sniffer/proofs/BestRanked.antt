@@ -11,10 +11,7 @@ use Rattle.dialect_rank.specs.declared.ranked.Ranked.{Ranked}
 use Rattle.dialect_rank.specs.Rank.{is_above, best_place}
 use Rattle.dialect_rank.specs.Ranked.{higher, ranked_of}
 use Rattle.dialect_rank.specs.Score.{score_of}
-use Rattle.dialect_rank.proofs.RankLaws.{is_above-back, is_above-trans, best_is_first_highest}
-
-is_ranked : IsStrictWeakOrder is_above
-is_ranked = record { one_way = is_above-back; chain = is_above-trans }
+use Rattle.dialect_rank.proofs.RankLaws.{is_above-back, is_above-trans, best_is_first_highest, is_ranked}
 
 module _ (sample : List ℕ) (whole : Bool) (size : ℕ) (candidates : List Marks) (default : Marks) where
   abbrev score : Marks → Score

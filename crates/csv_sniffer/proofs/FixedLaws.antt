@@ -22,7 +22,7 @@ use Rattle.csv_sniffer.proofs.NamedTypes.{length-types_by_name, none_given}
 
 -- ---- columns, header and types
 
-and_again : (a b : Bool) → (a && (a && b)) ≡ (a && b)
+pub and_again : (a b : Bool) → (a && (a && b)) ≡ (a && b)
 and_again true b = refl
 and_again false b = refl
 

@@ -3,7 +3,7 @@ use Rattle.std.proofs.Common.{◌≡◌, ℕ, ◌+◌, ◌<◌, ◌≤◌, ◌�
 use Rattle.std.specs.Prelude.{slice_get, slice_range, option_and_then}
 use Rattle.std.specs.List.{list_all}
 use Rattle.std.specs.Char.{is_ascii_alphabetic}
-use Rattle.std.proofs.lemmas.Bool.{and_from, and_parts}
+use Rattle.std.proofs.lemmas.Bool.{and_from, and_parts, cases_lt}
 use Rattle.std.proofs.lemmas.Bool.Decides.{eqb_tells}
 use Rattle.byte_classes.specs.Dialect.{Marks}
 use Rattle.byte_classes.specs.Class.{class_of}
@@ -98,13 +98,10 @@ kept_one_more fs possible column within before here o k other lt = elim (eqb_tel
   | inr apart ↦ (let ne : k ≢ column = apart.1 in before o k other (omega (arith, lt, ne)))
 ]
 
-lt_or_le : (a b : ℕ) → (a < b) ⊎ (b ≤ a)
-lt_or_le a b = grind arith
-
 -- those behind the last one that isn't settled stay as they are
 pub kept_with_settled : (fs : List Field) (possible : List PossibleTypes) (column count : ℕ) → count ≤ column →
     ((k : ℕ) (other : PossibleTypes) → count ≤ k → k < length possible → is_settled (get_or possible k other) ≡ true) → KeptBelow fs possible column → KeptBelow fs possible (length possible)
-kept_with_settled fs possible column count low behind before o k other lt = by_place (lt_or_le k column) where
+kept_with_settled fs possible column count low behind before o k other lt = by_place (cases_lt k column) where
   by_place : (k < column) ⊎ (column ≤ k) → get_or possible k other ≡ narrowed_by (column_value o fs k) (get_or possible k other)
   by_place (inl first) = before o k other first
   by_place (inr later) = settled (get_or possible k other) (column_value o fs k) (behind k other (omega (arith, low, later)) lt)
