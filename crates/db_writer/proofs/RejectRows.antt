@@ -3,8 +3,8 @@ use Rattle.std.proofs.Common.{◌≡◌, ℕ, suc, ◌+◌, ◌<◌, List, [], �
 use Rattle.std.specs.Prelude.{slice_get}
 use Rattle.std.proofs.lemmas.List.{map-append, take_more}
 use Rattle.std.proofs.lemmas.List.Elements.{All-append, All-cons, All-push}
+use Rattle.std.proofs.lemmas.Grind.{flat_map-append}
 use Rattle.sqlite_value.specs.Order.{Row}
-use Rattle.csv_writer.proofs.Lines.{flat_map-append}
 use Rattle.csv_sniffer.specs.declared.found.Sniffed.{Sniffed}
 use Rattle.file_list.specs.declared.batch.FileBook.{FileBook}
 use Rattle.db_records.specs.Record.{IsWritable, record_bytes}

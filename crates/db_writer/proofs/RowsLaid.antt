@@ -5,9 +5,9 @@ use Rattle.sqlite_value.specs.declared.value.Value.{Value}
 use Rattle.sqlite_value.specs.Order.{Row}
 use Rattle.value_types.specs.Datum.{Datum}
 use Rattle.std.proofs.lemmas.List.{map-append}
+use Rattle.std.proofs.lemmas.Grind.{flat_map-append}
 use Rattle.db_pages.proofs.Rows.{with_rows-append}
-use Rattle.csv_writer.proofs.Lines.{flat_map-append}
-use Rattle.csv_writer.proofs.Ranges.{range-more, range-append}
+use Rattle.text_pieces.proofs.Ranges.{range-more, range-append}
 use Rattle.db_records.specs.Record.{type_bytes, value_bytes, record_bytes}
 use Rattle.db_writer.specs.Stored.{stored_cell, stored_row}
 use Rattle.db_writer.specs.Written.{Written, no_values, with_value, with_values, with_records, records_of}

@@ -1,3 +1,5 @@
 mod Fronts
 pub mod Lanes
+pub mod Ranges
 pub mod RunLengths
+pub mod ShareTexts

@@ -1,11 +1,13 @@
 //! A text in pieces. Texts that workers made side by side are one text without a copy: its pieces are written one after
 //! another. Short pieces are joined as they come, so that a short text is written at once. What writers of texts share
-//! stands here too: runs of bytes, found by lanes and copied whole.
+//! stands here too: runs of bytes, found by lanes and copied whole, and the shares of rows that workers make side by side.
 //! It serves the crates above alone.
 #![tactic(auto)]
 
 mod pieces;
 mod runs;
+mod shares;
 
 pub use pieces::Pieces;
 pub use runs::{append_run, run_behind};
+pub use shares::{Share, cut_shares, push_shares};

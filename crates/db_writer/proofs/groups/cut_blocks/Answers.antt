@@ -1,5 +1,5 @@
 use Rattle.std.proofs.Common.{◌≡◌, ℕ, ◌+◌, ◌-◌, ◌/◌, ◌%◌, ◌≤◌, ◌⊎◌, ◌*◌, ◌^◌, min, inl, inr, sym, ◌∙◌, ap, subst, arith, refl}
-use Rattle.csv_writer.proofs.GroupTexts.{share_of_one, All-more}
+use Rattle.text_pieces.proofs.ShareTexts.{share_of_one, All-more}
 use Rattle.db_writer.specs.Groups.{AreBlocks, IsUnwritten}
 use Rattle.db_writer.proofs.Blocks.{ends_all, ends_block, more}
 use Rattle.db_writer.proofs.groups.cut_blocks.Goals as goal
