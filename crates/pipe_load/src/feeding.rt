@@ -15,7 +15,6 @@ use crate::reader::Reader;
 use crate::window::{Item, Window};
 use crate::windows::{Pass, Windows};
 use csv_source::{NoMemory, Source};
-use std::alloc::Global;
 use std::collections::VecDeque;
 use std::sync::Wait;
 use window_load::LoadStop;
@@ -65,7 +64,6 @@ impl Feed {
     fn put_all<R: Wait, S: Source>(
         &mut self,
         rt: &R,
-        alloc: Global,
         windows: &Windows,
         reader: &mut Reader,
         source: &mut S,
@@ -90,7 +88,7 @@ impl Feed {
             → (read : List ℕ) × Consumes (S.left source.old) (S.left source.new) read × (length read ≡ reader.old.room) }
     {
         for _ in 0..u64::MAX {
-            match reader.next(alloc, source) {
+            match reader.next(source) {
                 Ok(Some(window)) => self.keep(rt, windows, window)?,
                 Ok(None) => return Ok(()),
                 Err(stop) => return Err(stop),
@@ -181,7 +179,6 @@ impl Feed {
     pub fn put_data<R: Wait, S: Source>(
         &mut self,
         rt: &R,
-        alloc: Global,
         windows: &Windows,
         reader: &mut Reader,
         source: &mut S,
@@ -208,7 +205,7 @@ impl Feed {
         ensures large { result ≡ Err stops.TooLarge
             → (read : List ℕ) × Consumes (S.left source.old) (S.left source.new) read × (length read ≡ reader.old.room) }
     {
-        let read = self.put_all(rt, alloc, windows, reader, source);
+        let read = self.put_all(rt, windows, reader, source);
         self.put_to_end(rt, windows, stages);
         windows.signals.tell_end();
         read

@@ -15,6 +15,7 @@ mod layout;
 mod loading;
 mod order;
 pub mod pass_view;
+mod pipeline;
 mod reader;
 mod rule;
 mod scanner;

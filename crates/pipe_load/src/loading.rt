@@ -7,14 +7,13 @@ ghost use Rattle.load_options.specs.declared.limits.TheConstants.{MAX_LINE_SIZE,
 ghost use Rattle.range_scan.specs.Scanned.{HasColumns};
 ghost use Rattle.window_load.specs.DataRead.{IsWindowRead, Comes, ComesWhole, ComesOver};
 ghost use Rattle.window_load.specs.declared.stop.LoadStop.TheVariants as stops;
-ghost use Rattle.pipe_load.specs.Loading.{IsAllRead, HasReach};
+ghost use Rattle.pipe_load.specs.Loading.{IsAllRead};
 
 use crate::answer::{data_read, up_to_reject};
-use crate::beside::read_beside;
 use crate::ended::Ended;
 use crate::feeding::Feed;
 use crate::layout::layout_of;
-use crate::order::join_windows;
+use crate::pipeline::Pipeline;
 use crate::reader::Reader;
 use crate::scanner::Scanner;
 use crate::stages::stages_of;
@@ -27,82 +26,67 @@ use std::sync::Wait;
 use std::thread::Threads;
 use window_load::{DataRead, InputWindow, LoadStop, WindowRead};
 
-/// Loads data of which the head was read. The source may give fewer bytes than there is room for.
-fn load_windows<R: Threads + Wait + Sync, S: Source + Send, G: Gate>(
-    rt: &R,
-    scanner: &Scanner<'_, G>,
-    threads: u32,
-    head: &[u8],
-    room: u64,
-    source: &mut S,
-) -> Result<DataRead, LoadStop>
-    requires reach { HasReach scanner.now.ranges.context.now scanner.now.layout }
-    requires threads { (1 ≤ threads) × (threads ≤ 64) }
-    requires some { 0 < room }
-    requires room { length head.now + room < 2 ^ 34 }
-    ensures moved { Comes (S.left source.old) (S.left source.new) }
-    ensures ok { IfOk result (λ read. (came : List ℕ)
-        × IsAllRead scanner.now.ranges.context.now scanner.now.layout head.now room (S.left source.old) (S.left source.new) came read) }
-    ensures held { S.held source.new ≡ S.held source.old }
-    ensures count { S.faults source.old ≤ S.faults source.new }
-    ensures failed { result ≡ Err stops.Failed → Rose (S.faults source.old) (S.faults source.new) }
-    // What may be read at most was read.
-    ensures too_large { result ≡ Err stops.TooLarge
-        → (came : List ℕ) × Consumes (S.left source.old) (S.left source.new) came × (length came ≡ room) }
-{
-    let alloc = scanner.ranges.alloc;
-    let mut reader = Reader::new(alloc, head, scanner.layout, room);
-    let (windows, mut pass) = Windows::new(alloc)?;
-    let mut stages = stages_of(alloc, &windows, &mut pass, threads)?;
-    let mut feed = Feed {
-        pass,
-        waiting: VecDeque::new(alloc),
-    };
-    match read_beside(
-        rt,
-        alloc,
-        &windows,
-        scanner,
-        &mut reader,
-        source,
-        &mut feed,
-        &mut stages,
-    ) {
-        Ok(()) => {}
-        Err(stop) => return Err(stop),
+impl<'r, 'a, R: Threads + Wait + Sync, G: Gate> Pipeline<'r, 'a, R, G> {
+    /// Loads data of which the head was read. The source may give fewer bytes than there is room for.
+    fn load_windows<S: Source + Send>(
+        &self,
+        head: &[u8],
+        room: u64,
+        source: &mut S,
+    ) -> Result<DataRead, LoadStop>
+        requires some { 0 < room }
+        requires room { length head.now + room < 2 ^ 34 }
+        ensures moved { Comes (S.left source.old) (S.left source.new) }
+        ensures ok { IfOk result (λ read. (came : List ℕ)
+            × IsAllRead self.now.scanner.ranges.context.now self.now.scanner.layout head.now room (S.left source.old) (S.left source.new) came read) }
+        ensures held { S.held source.new ≡ S.held source.old }
+        ensures count { S.faults source.old ≤ S.faults source.new }
+        ensures failed { result ≡ Err stops.Failed → Rose (S.faults source.old) (S.faults source.new) }
+        // What may be read at most was read.
+        ensures too_large { result ≡ Err stops.TooLarge
+            → (came : List ℕ) × Consumes (S.left source.old) (S.left source.new) came × (length came ≡ room) }
+    {
+        let alloc = self.scanner.ranges.alloc;
+        let mut reader = Reader::new(alloc, head, self.scanner.layout, room);
+        let (windows, mut pass) = Windows::new(alloc)?;
+        let mut stages = stages_of(alloc, &windows, &mut pass, self.threads)?;
+        let mut feed = Feed {
+            pass,
+            waiting: VecDeque::new(alloc),
+        };
+        match self.read_beside(&windows, &mut reader, source, &mut feed, &mut stages) {
+            Ok(()) => {}
+            Err(stop) => return Err(stop),
+        }
+        let counted = self.join_windows(&windows, feed, stages, reader.number)?;
+        Ok(data_read(counted))
     }
-    let counted = join_windows(rt, alloc, &windows, scanner, feed, stages, reader.number)?;
-    Ok(data_read(counted))
-}
 
-/// Loads data of which the head was read. Where the input has ended nothing more is read.
-fn load_rest<R: Threads + Wait + Sync, S: Source + Send, G: Gate>(
-    rt: &R,
-    scanner: &Scanner<'_, G>,
-    threads: u32,
-    head: &[u8],
-    room: u64,
-    ended: bool,
-    source: &mut S,
-) -> Result<DataRead, LoadStop>
-    requires reach { HasReach scanner.now.ranges.context.now scanner.now.layout }
-    requires threads { (1 ≤ threads) × (threads ≤ 64) }
-    requires some { 0 < room }
-    requires room { length head.now + room < 2 ^ 34 }
-    requires at_end { ended ≡ true → IsAtEnd (S.left source.old) }
-    ensures moved { Comes (S.left source.old) (S.left source.new) }
-    ensures ok { IfOk result (λ read. (came : List ℕ) × (ended ≡ true → came ≡ [])
-        × IsAllRead scanner.now.ranges.context.now scanner.now.layout head.now room (S.left source.old) (S.left source.new) came read) }
-    ensures held { S.held source.new ≡ S.held source.old }
-    ensures count { S.faults source.old ≤ S.faults source.new }
-    ensures failed { result ≡ Err stops.Failed → Rose (S.faults source.old) (S.faults source.new) }
-    ensures too_large { result ≡ Err stops.TooLarge
-        → (came : List ℕ) × Consumes (S.left source.old) (S.left source.new) came × (length came ≡ room) }
-{
-    if ended {
-        return load_windows(rt, scanner, threads, head, room, &mut Ended);
+    /// Loads data of which the head was read. Where the input has ended nothing more is read.
+    fn load_rest<S: Source + Send>(
+        &self,
+        head: &[u8],
+        room: u64,
+        ended: bool,
+        source: &mut S,
+    ) -> Result<DataRead, LoadStop>
+        requires some { 0 < room }
+        requires room { length head.now + room < 2 ^ 34 }
+        requires at_end { ended ≡ true → IsAtEnd (S.left source.old) }
+        ensures moved { Comes (S.left source.old) (S.left source.new) }
+        ensures ok { IfOk result (λ read. (came : List ℕ) × (ended ≡ true → came ≡ [])
+            × IsAllRead self.now.scanner.ranges.context.now self.now.scanner.layout head.now room (S.left source.old) (S.left source.new) came read) }
+        ensures held { S.held source.new ≡ S.held source.old }
+        ensures count { S.faults source.old ≤ S.faults source.new }
+        ensures failed { result ≡ Err stops.Failed → Rose (S.faults source.old) (S.faults source.new) }
+        ensures too_large { result ≡ Err stops.TooLarge
+            → (came : List ℕ) × Consumes (S.left source.old) (S.left source.new) came × (length came ≡ room) }
+    {
+        if ended {
+            return self.load_windows(head, room, &mut Ended);
+        }
+        self.load_windows(head, room, source)
     }
-    load_windows(rt, scanner, threads, head, room, source)
 }
 
 /// Loads the data of an input, of which the head was read. They begin at a place of the head, and go on with what is left
@@ -155,6 +139,11 @@ pub fn pipe_load<R: Threads + Wait + Sync, S: Source + Send, G: Gate>(
         gate,
     };
     let scanner = Scanner { ranges, layout };
-    let read = load_rest(rt, &scanner, threads, window.bytes(), room, ended, source)?;
+    let pipeline = Pipeline {
+        rt,
+        scanner,
+        threads,
+    };
+    let read = pipeline.load_rest(window.bytes(), room, ended, source)?;
     Ok(up_to_reject(alloc, read, stop)?)
 }

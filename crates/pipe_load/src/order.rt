@@ -13,7 +13,7 @@ ghost use Rattle.pipe_load.specs.Slots.{AreSlots, HasPut, HoldsAll, IsAllHeld};
 
 use crate::feeding::Feed;
 use crate::joining::Counted;
-use crate::scanner::Scanner;
+use crate::pipeline::Pipeline;
 use crate::slots::Slots;
 use crate::stage::Stage;
 use crate::stages::any_short;
@@ -21,6 +21,7 @@ use crate::windows::{Pass, Windows};
 use csv_source::{Gate, NoMemory};
 use std::alloc::Global;
 use std::sync::Wait;
+use std::thread::Threads;
 
 /// The windows that stages kept and those that wait, in hand, and the caller's pass with what the stages took: all passes
 /// that were split off it come back. What isn't in hand then is in the queue.
@@ -54,33 +55,33 @@ fn take_in_hand(
     Ok((slots, pass))
 }
 
-/// Takes all windows in hand, and joins them in order.
-pub fn join_windows<R: Wait, G: Gate>(
-    rt: &R,
-    alloc: Global,
-    windows: &Windows,
-    scanner: &Scanner<'_, G>,
-    feed: Feed,
-    stages: Vec<Stage>,
-    count: u64,
-) -> Result<Counted, NoMemory>
-    requires feed { IsCallers windows.now (vec_len stages) feed.pass }
-    requires made { length (made_of feed) ≡ count }
-    requires numbered { AreNumbered (made_of feed) }
-    requires stages { All (IsStage windows.now) stages.items }
-    requires all { All (λ stage. stage.short ≡ false → HasScanned scanner.now.ranges.context.now scanner.now.layout stage) stages.items }
-    requires reach { scanner.now.layout.reach ≡ scanner.now.ranges.context.now.schema.max_line_size + 1 }
-    // Where the windows are those of some data, all of these are joined.
-    ensures { (text : List ℕ) → made_of feed ≡ windows_of scanner.now.layout text count → length text ≤ count * stride scanner.now.layout
-        → (0 < count → (count - 1) * stride scanner.now.layout < length text)
-        → IfOk result (λ counted. IsJoinedTo scanner.now.ranges.context.now text scanner.now.layout.data_start scanner.now.layout.range_size
-        (range_count (length text) scanner.now.layout.range_size) counted) }
-{
-    let (mut slots, mut pass) = take_in_hand(alloc, windows, feed, stages, count)?;
-    let mut counted = Counted::new(alloc, scanner.ranges.context)?;
-    for number in 0..count {
-        let kept = slots.fetch(rt, alloc, windows, &mut pass, number);
-        counted.add_window(scanner, kept)?;
+impl<'r, 'a, R: Threads + Wait + Sync, G: Gate> Pipeline<'r, 'a, R, G> {
+    /// Takes all windows in hand, and joins them in order.
+    pub fn join_windows(
+        &self,
+        windows: &Windows,
+        feed: Feed,
+        stages: Vec<Stage>,
+        count: u64,
+    ) -> Result<Counted, NoMemory>
+        requires feed { IsCallers windows.now (vec_len stages) feed.pass }
+        requires made { length (made_of feed) ≡ count }
+        requires numbered { AreNumbered (made_of feed) }
+        requires stages { All (IsStage windows.now) stages.items }
+        requires all { All (λ stage. stage.short ≡ false → HasScanned self.now.scanner.ranges.context.now self.now.scanner.layout stage) stages.items }
+        // Where the windows are those of some data, all of these are joined.
+        ensures { (text : List ℕ) → made_of feed ≡ windows_of self.now.scanner.layout text count → length text ≤ count * stride self.now.scanner.layout
+            → (0 < count → (count - 1) * stride self.now.scanner.layout < length text)
+            → IfOk result (λ counted. IsJoinedTo self.now.scanner.ranges.context.now text self.now.scanner.layout.data_start self.now.scanner.layout.range_size
+            (range_count (length text) self.now.scanner.layout.range_size) counted) }
+    {
+        let alloc = self.scanner.ranges.alloc;
+        let (mut slots, mut pass) = take_in_hand(alloc, windows, feed, stages, count)?;
+        let mut counted = Counted::new(alloc, self.scanner.ranges.context)?;
+        for number in 0..count {
+            let kept = slots.fetch(self.rt, alloc, windows, &mut pass, number);
+            counted.add_window(&self.scanner, kept)?;
+        }
+        Ok(counted)
     }
-    Ok(counted)
 }

@@ -17,6 +17,7 @@ use window_load::LoadStop;
 /// What is in hand of the data behind the windows that were cut, and how far the reading may go.
 #[derive(Drop)]
 pub struct Reader<'a> {
+    pub alloc: Global,
     /// What was read before, and isn't in hand yet.
     pub head: &'a [u8],
     /// The bytes from the start of the next window on.
@@ -46,6 +47,7 @@ impl<'a> Reader<'a> {
         ensures { IsStarted head.now layout room result }
     {
         Reader {
+            alloc,
             head,
             carry: Vec::new(alloc),
             number: 0,
@@ -121,7 +123,7 @@ impl<'a> Reader<'a> {
     }
 
     /// The next window, from the bytes in hand. Those that the window after it needs stay in hand.
-    fn cut(&mut self, alloc: Global) -> Result<Window, NoMemory>
+    fn cut(&mut self) -> Result<Window, NoMemory>
         requires layout { IsLayout self.old.layout }
         requires numbers { self.old.number < 2 ^ 40 }
         ensures ok { IfOk result (λ window. IsCut self.old self.new window) }
@@ -129,7 +131,7 @@ impl<'a> Reader<'a> {
     {
         let passed = (self.number.min(1) + self.layout.stride() - 1) as usize;
         let kept = self.carry.len().min(passed);
-        let next = self.carry[kept..].to_vec(alloc)?;
+        let next = self.carry[kept..].to_vec(self.alloc)?;
         let bytes = mem::replace(&mut self.carry, next);
         let window = Window::of(self.number, bytes);
         self.number += 1;
@@ -137,11 +139,7 @@ impl<'a> Reader<'a> {
     }
 
     /// The next window, or none behind the last one.
-    pub fn next<S: Source>(
-        &mut self,
-        alloc: Global,
-        source: &mut S,
-    ) -> Result<Option<Window>, LoadStop>
+    pub fn next<S: Source>(&mut self, source: &mut S) -> Result<Option<Window>, LoadStop>
         requires layout { IsLayout self.old.layout }
         requires numbers { self.old.number < 2 ^ 40 }
         requires fits { vec_len self.old.carry ≤ want self.old.layout self.old.number }
@@ -163,6 +161,6 @@ impl<'a> Reader<'a> {
         if self.carry.len() as u64 <= self.number.min(1) {
             return Ok(None);
         }
-        Ok(Some(self.cut(alloc)?))
+        Ok(Some(self.cut()?))
     }
 }

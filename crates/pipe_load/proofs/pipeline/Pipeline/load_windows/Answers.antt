@@ -7,7 +7,7 @@ use Rattle.pipe_load.specs.Feeding.{AreNumbered, made_of}
 use Rattle.pipe_load.specs.Layout.{stride, window_of, windows_of}
 use Rattle.pipe_load.specs.Loading.{data_read}
 use Rattle.pipe_load.proofs.LoadLaws.{numbered_windows, all_read}
-use Rattle.pipe_load.proofs.loading.load_windows.Goals as goal
+use Rattle.pipe_load.proofs.pipeline.Pipeline.load_windows.Goals as goal
 
 pub join_windows-requires-clause-made : goal.join_windows-requires-clause-made
 join_windows-requires-clause-made g c κs within =
@@ -21,8 +21,8 @@ join_windows-requires-clause-numbered g c κs within =
 
 pub returns-clause-ok : goal.returns-clause-ok
 returns-clause-ok g c =
-    let context = c.args.scanner.now.ranges.context.now in
-    let l : Layout = c.args.scanner.now.layout in
+    let context = c.args.self.now.scanner.ranges.context.now in
+    let l : Layout = c.args.self.now.scanner.layout in
     let number = c.read_beside.new.reader.number in
     let text : List ℕ = c.in-Ok.ensures.ok.0 in
     let came : List ℕ = c.in-Ok.ensures.ok.1 in
@@ -32,7 +32,7 @@ returns-clause-ok g c =
     let covered : length text ≤ number * stride l = subst (λ (x : Layout). length text ≤ number * stride x) plan cut.covered in
     let begun : 0 < number → (number - 1) * stride l < length text = subst (λ (x : Layout). 0 < number → (number - 1) * stride x < length text) plan cut.begun in
     let read : IsDataRead context text l.data_start l.range_size (data_read c.in_ok-counted.counted) =
-    all_read context l c.args.scanner.now.lies text c.in_ok-counted.counted (c.in_ok-counted.ensures text windows covered begun) in
+    all_read context l c.args.self.now.scanner.lies text c.in_ok-counted.counted (c.in_ok-counted.ensures text windows covered begun) in
     let text_is : text ≡ c.args.head.now ++ came = cut.text_is ∙ ap (λ (front : List ℕ). front ++ came) c.new-reader.ensures.rest in
     let few = cut.rest in let left = c.new-reader.ensures.left in (
       came,

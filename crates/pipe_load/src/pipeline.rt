@@ -1,0 +1,18 @@
+//! What a pipelined load works with.
+ghost use Rattle.std.specs.Prelude.{◌≤◌};
+ghost use Rattle.pipe_load.specs.Loading.{HasReach};
+
+use crate::scanner::Scanner;
+use csv_source::Gate;
+use std::sync::Wait;
+use std::thread::Threads;
+
+/// Loads data by so many stages beside their reading.
+#[derive(Drop)]
+pub struct Pipeline<'r, 'a, R: Threads + Wait + Sync, G: Gate> {
+    pub rt: &'r R,
+    pub scanner: Scanner<'a, G>,
+    pub threads: u32,
+    ghost within: { (1 ≤ threads) × (threads ≤ 64) },
+    ghost reaches: { HasReach scanner.ranges.context.now scanner.layout },
+}
