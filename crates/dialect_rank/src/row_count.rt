@@ -98,7 +98,7 @@ fn one_if(quoted: bool) -> usize
 
 /// Whether a byte ends a line.
 #[inline(always)]
-fn is_line_end(byte: u8) -> bool
+pub fn is_line_end(byte: u8) -> bool
     ensures { result ≡ is_line_end_byte byte }
 {
     byte == b'\n' || byte == b'\r'
@@ -110,6 +110,7 @@ pub fn count_row(dialect: &Dialect, bytes: &[u8]) -> Option<RowCount>
     requires no_comment { begins_comment dialect.now bytes.now ≡ false }
     ensures { IfSome result (HasCount dialect.now bytes.now) }
 {
+    let delim = dialect.delim();
     let doubled = doubled_quote(dialect);
     let mut from = 0;
     let mut fields = 0;
@@ -119,7 +120,7 @@ pub fn count_row(dialect: &Dialect, bytes: &[u8]) -> Option<RowCount>
         fields += 1;
         quoted += one_if(stop.quoted);
         let byte = bytes[stop.end];
-        if byte != dialect.delim() {
+        if byte != delim {
             if !is_line_end(byte) {
                 return None;
             }
