@@ -152,7 +152,7 @@ count_fields d at (raw ∷ raws) =
     ∙ ap (λ n. cond {A = ℕ} (is_quoted d raw) 1 0 + n) (count_fields d (at + length raw + 1) raws)
     ∙ sym (sum_by-cons (λ (raw : List ℕ). cond {A = ℕ} (is_quoted d raw) 1 0) raw raws)
 
-none_closed : (d : Marks) (row : List ℕ) → NoQuote d row → closed_fields d row ≡ 0
+pub none_closed : (d : Marks) (row : List ℕ) → NoQuote d row → closed_fields d row ≡ 0
 none_closed d row all =
     let whole : count_by (λ (f : Field). f.quoted) (fields d row) ≡ 0 = count_fields d 0 (raw_fields d RowStart row) ∙ raws_unquoted d RowStart row all in
     let most = sum_by-take-le (λ (f : Field). cond {A = ℕ} f.quoted 1 0) (fields d row) (cond (is_sound d row) (field_count d row) (field_count d row - 1)) in

@@ -1,10 +1,12 @@
 //! The next row of a sample that has a byte, and what it counts for.
-ghost use Rattle.std.specs.Prelude.{◌≡◌, ◌≤◌, ◌<◌, [], drop, false, length, IfOk, MatchOption};
+ghost use Rattle.std.specs.Prelude.{◌≡◌, ◌≤◌, ◌<◌, [], drop, false, length, IfOk, IfSome, MatchOption};
 ghost use Rattle.quote_automaton.specs.declared.state.State.TheVariants.{RowStart};
 ghost use Rattle.quote_automaton.specs.Rows.{begins_comment, first_row_start};
+ghost use Rattle.dialect_rank.specs.RowCount.{HasCount};
 ghost use Rattle.dialect_rank.specs.Walk.{filled_from, FindsRow, IsRowAt};
 
-use crate::row_count::count_row;
+use crate::bare_rows::count_bare;
+use crate::row_count::{RowCount, count_row};
 use crate::shape::{RowShape, closed_fields, shape_of};
 use byte_classes::Dialect;
 use csv_source::NoMemory;
@@ -40,19 +42,34 @@ fn read_row(
     })
 }
 
+/// Counts the fields of the row at the front of the bytes: first as those of a bare row, where `bare` says so.
+#[inline(always)]
+fn count_front(dialect: &Dialect, bytes: &[u8], bare: bool) -> Option<RowCount>
+    requires no_comment { begins_comment dialect.now bytes.now ≡ false }
+    ensures { IfSome result (HasCount dialect.now bytes.now) }
+{
+    if bare {
+        if let Some(row) = count_bare(dialect, bytes) {
+            return Some(row);
+        }
+    }
+    count_row(dialect, bytes)
+}
+
 /// The row that begins at a place. Nearly every one is counted by one look.
 #[inline(always)]
 fn row_at(
     dialect: &Dialect,
     sample: &[u8],
     from: usize,
+    bare: bool,
     fields: &mut Fields,
 ) -> Result<FoundRow, NoMemory>
     requires within { from ≤ length sample.now }
     requires no_comment { begins_comment dialect.now (drop from sample.now) ≡ false }
     ensures { IfOk result (IsRowAt dialect.now sample.now from) }
 {
-    let Some(row) = count_row(dialect, &sample[from..]) else {
+    let Some(row) = count_front(dialect, &sample[from..], bare) else {
         return read_row(dialect, sample, from, fields);
     };
     Ok(FoundRow {
@@ -78,11 +95,13 @@ fn row_start(dialect: &Dialect, sample: &[u8], at: usize) -> Option<usize>
     Some(at)
 }
 
-/// Finds the next row with a byte, from the start of a line on. Comment lines are passed over.
+/// Finds the next row with a byte, from the start of a line on. Comment lines are passed over. `bare` says that rows are likely
+/// to have no quote.
 pub fn next_filled(
     dialect: &Dialect,
     sample: &[u8],
     from: usize,
+    bare: bool,
     fields: &mut Fields,
 ) -> Result<Option<FoundRow>, NoMemory>
     ensures { IfOk result (λ row. MatchOption row (filled_from dialect.now sample.now from ≡ []) (FindsRow dialect.now sample.now from)) }
@@ -92,7 +111,7 @@ pub fn next_filled(
         let Some(start) = row_start(dialect, sample, at) else {
             return Ok(None);
         };
-        let row = row_at(dialect, sample, start, fields)?;
+        let row = row_at(dialect, sample, start, bare, fields)?;
         if start < row.end {
             return Ok(Some(row));
         }
