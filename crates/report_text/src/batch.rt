@@ -74,39 +74,43 @@ pub fn all_in(batch: &Batch) -> Result<u64, NoMemory>
     Ok(count)
 }
 
+/// What is reported of several loaded files, under what was found in the first one; of their rejects, whether those that
+/// are stored are printed.
+#[derive(Clone, Copy)]
+pub(crate) struct BatchReport<'a> {
+    pub(crate) sniffed: &'a Sniffed,
+    pub(crate) batch: &'a Batch,
+    pub(crate) store: bool,
+    pub(crate) stats: &'a Option<Stats>,
+}
+
 /// Appends what stands behind the rows of several loaded files.
-fn push_batch_closing(
-    into: &mut Vec<u8>,
-    sniffed: &Sniffed,
-    batch: &Batch,
-    store: bool,
-    stats: &Option<Stats>,
-) -> Result<(), NoMemory>
-    ensures { OnOk result (into.new.items ≡ into.old.items ++ batch_closing sniffed.now batch.now store stats.now) }
+fn push_batch_closing(into: &mut Vec<u8>, report: &BatchReport<'_>) -> Result<(), NoMemory>
+    ensures { let closing = batch_closing report.now.sniffed.now report.now.batch.now report.now.store report.now.stats.now in
+        OnOk result (into.new.items ≡ into.old.items ++ closing) }
 {
+    let batch = report.batch;
     push_row_count(into, batch.table().rows())?;
-    push_scans_if(into, sniffed, store, batch)?;
-    push_errors(into, stored_in(store, batch)?, all_in(batch)?)?;
-    push_stats_of(into, stats)
+    push_scans_if(into, report.sniffed, report.store, batch)?;
+    push_errors(into, stored_in(report.store, batch)?, all_in(batch)?)?;
+    push_stats_of(into, report.stats)
 }
 
 /// Appends several loaded files with their rows, under what was found in the first one.
 pub(crate) fn push_batch<R: Threads + Sync>(
     workers: &Workers<'_, R>,
     into: &mut Pieces,
-    sniffed: &Sniffed,
-    batch: &Batch,
-    store: bool,
-    stats: &Option<Stats>,
+    report: &BatchReport<'_>,
 ) -> Result<(), NoMemory>
-    requires { IsPrintableBatch sniffed.now batch.now }
-    ensures { OnOk result (into.new ≡ into.old ++ batch_lines sniffed.now batch.now store stats.now) }
+    requires { IsPrintableBatch report.now.sniffed.now report.now.batch.now }
+    ensures { let lines = batch_lines report.now.sniffed.now report.now.batch.now report.now.store report.now.stats.now in
+        OnOk result (into.new ≡ into.old ++ lines) }
 {
     let mut head = Vec::new(workers.alloc);
-    push_found(&mut head, sniffed)?;
+    push_found(&mut head, report.sniffed)?;
     into.push(head)?;
-    push_table(workers, into, batch.table())?;
+    push_table(workers, into, report.batch.table())?;
     let mut tail = Vec::new(workers.alloc);
-    push_batch_closing(&mut tail, sniffed, batch, store, stats)?;
+    push_batch_closing(&mut tail, report)?;
     into.push(tail)
 }

@@ -5,7 +5,7 @@ ghost use Rattle.report_text.specs.Lines.{error_line, row_line};
 ghost use Rattle.report_text.specs.Report.{closing_lines, found_lines, has_rows, loaded_lines, report_of};
 ghost use Rattle.report_text.specs.Printable.{IsPrintable, IsPrintableLoad};
 
-use crate::batch::push_batch;
+use crate::batch::{BatchReport, push_batch};
 use crate::explained::push_explanation;
 use crate::faults::{
     push_mismatch, push_read_fault, push_refused, push_too_large, push_too_many_faults,
@@ -121,7 +121,13 @@ pub fn render<R: Threads + Sync>(
     match outcome {
         Outcome::Loaded(loaded) => push_loaded(&workers, &mut text, loaded)?,
         Outcome::Batch(sniffed, batch, store, stats) => {
-            push_batch(&workers, &mut text, sniffed, batch, *store, stats)?;
+            let report = BatchReport {
+                sniffed,
+                batch,
+                store: *store,
+                stats,
+            };
+            push_batch(&workers, &mut text, &report)?;
         }
         _ => {
             let mut short = Vec::new(alloc);

@@ -10,20 +10,20 @@ use Rattle.report_text.proofs.batch.push_batch.Goals as goal
 
 pub push_table-requires : goal.push_table-requires
 push_table-requires g c =
-    let batch = c.args.batch.now in (
+    let batch = c.args.report.now.batch.now in (
       search rules,
       subst (λ tys. All (IsPrintableRow tys) c.table.result.now.rows) (sym (c.table.ensures.types ∙ c.requires.types))
-          (subst (All (IsPrintableRow c.args.sniffed.now.types)) (sym c.table.ensures.rows) (printable_rows c.args.sniffed.now.types batch.rows c.requires.rows c.requires.values)),
+          (subst (All (IsPrintableRow c.args.report.now.sniffed.now.types)) (sym c.table.ensures.rows) (printable_rows c.args.report.now.sniffed.now.types batch.rows c.requires.rows c.requires.values)),
     )
 
 pub returns : goal.returns
 returns g c =
-    let s = c.args.sniffed.now in
-    let batch = c.args.batch.now in
+    let s = c.args.report.now.sniffed.now in
+    let batch = c.args.report.now.batch.now in
     let before : List ℕ = c.args.into.now in
     let found : List ℕ = found_lines s in
     let rows : List ℕ = flat_map row_line batch.rows in
-    let closing : List ℕ = batch_closing s batch c.args.store c.args.stats.now in
+    let closing : List ℕ = batch_closing s batch c.args.report.now.store c.args.report.now.stats.now in
     let tail : List ℕ = c.push_batch_closing.new.into.items in
     let t1 : List ℕ = c.push.new.self in
     let t2 : List ℕ = c.push_table.new.into in

@@ -8,13 +8,13 @@ use Rattle.report_text.proofs.batch.push_batch_closing.Goals as goal
 
 pub returns : goal.returns
 returns c =
-    let s = c.args.sniffed.now in
-    let batch = c.args.batch.now in
+    let s = c.args.report.now.sniffed.now in
+    let batch = c.args.report.now.batch.now in
     let before : List ℕ = c.args.into.now.items in
     let count : List ℕ = rows_line (length batch.rows) in
-    let scans : List ℕ = scan_lines s c.args.store batch.files in
-    let errors : List ℕ = errors_line (stored_in c.args.store batch.files) (all_in batch.files) in
-    let stats : List ℕ = option_map_or stats_line c.args.stats.now [] in
+    let scans : List ℕ = scan_lines s c.args.report.now.store batch.files in
+    let errors : List ℕ = errors_line (stored_in c.args.report.now.store batch.files) (all_in batch.files) in
+    let stats : List ℕ = option_map_or stats_line c.args.report.now.stats.now [] in
     let t1 : List ℕ = c.push_row_count.new.into.items in
     let t2 : List ℕ = c.push_scans_if.new.into.items in
     let t3 : List ℕ = c.push_errors.new.into.items in
