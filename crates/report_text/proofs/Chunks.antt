@@ -1,12 +1,13 @@
 -- Rows that have a text, in a table and in its chunks.
-use Rattle.std.proofs.Common.{◌≡◌, ℕ, suc, ◌<◌, Bool, true, false, List, [], ◌∷◌, ◌++◌, length, get_or, subst, sym, ap, refl}
+use Rattle.std.proofs.Common.{◌≡◌, ℕ, ◌<◌, Bool, true, false, List, [], ◌∷◌, ◌++◌, length, get_or, subst, sym}
 use Rattle.std.specs.Prelude.{All, ◌&&◌}
 use Rattle.std.proofs.lemmas.List.Elements.{All-nil, All-cons, All-head, All-tail}
 use Rattle.value_types.specs.declared.types.ColumnType.{ColumnType}
 use Rattle.value_types.specs.Datum.{Datum}
-use Rattle.value_types.specs.OfType.{fits, fit_all}
+use Rattle.value_types.specs.OfType.{fit_all}
 use Rattle.column_store.specs.ChunkView.{ChunkView}
 use Rattle.column_store.specs.Stacked.{rows_in}
+use Rattle.column_store.proofs.NextCells.{fit_lengths}
 use Rattle.value_types.specs.Spelled.{IsSpelledCell}
 use Rattle.report_text.specs.PrintableRows.{IsPrintableRow}
 
@@ -23,12 +24,6 @@ both : (a b : Bool) → (a && b) ≡ true → b ≡ true
 both true b h = h
 both false b h = absurd (let no : ⊥ = cc in no)
 
-same_count : (tys : List ColumnType) (cells : List Datum) → fit_all tys cells ≡ true → length cells ≡ length tys
-same_count [] [] h = refl
-same_count [] (cell ∷ cells) h = absurd (let no : ⊥ = cc in no)
-same_count (ty ∷ tys) [] h = absurd (let no : ⊥ = cc in no)
-same_count (ty ∷ tys) (cell ∷ cells) h = ap suc (same_count tys cells (both (fits ty cell) (fit_all tys cells) h))
-
 -- rows that fit, of values that some text spells
 pub printable_rows : (tys : List ColumnType) (rows : List (List Datum)) → All (λ cells. fit_all tys cells ≡ true) rows → All (λ cells. All IsSpelledCell cells) rows
     → All (IsPrintableRow tys) rows
@@ -36,7 +31,7 @@ printable_rows tys [] fit spelled = All-nil (IsPrintableRow tys)
 printable_rows tys (row ∷ rows) fit spelled =
     All-cons (IsPrintableRow tys) row rows
     (record {
-      count = same_count tys row (All-head (λ cells. fit_all tys cells ≡ true) row rows fit);
+      count = fit_lengths tys row (All-head (λ cells. fit_all tys cells ≡ true) row rows fit);
       values = All-head (λ cells. All IsSpelledCell cells) row rows spelled;
     })
     (printable_rows tys rows (All-tail (λ cells. fit_all tys cells ≡ true) row rows fit) (All-tail (λ cells. All IsSpelledCell cells) row rows spelled))

@@ -1,10 +1,10 @@
 -- Texts that grow row by row, and chunk by chunk.
 use Rattle.std.proofs.Common.{◌≡◌, ℕ, ◌+◌, ◌-◌, ◌<◌, ◌≤◌, List, [], ◌∷◌, ◌++◌, length, sym, ◌∙◌, ap, append_assoc, append-nil, get_or}
 use Rattle.std.specs.Prelude.{flat_map, slice_range}
+use Rattle.std.proofs.lemmas.Grind.{flat_map-append}
 use Rattle.value_types.specs.Datum.{Datum}
 use Rattle.report_text.specs.Lines.{row_line}
-use Rattle.report_text.proofs.Ranges.{range-more, range-append}
-use Rattle.report_text.proofs.Texts.{flat_map-append}
+use Rattle.text_pieces.proofs.Ranges.{range-more, range-append}
 
 -- a row's line was appended to those before
 pub line_appended : (rows : List (List Datum)) (first row : ℕ) (old into new : List ℕ) → first ≤ row → row < length rows →

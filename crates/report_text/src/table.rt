@@ -3,12 +3,12 @@ ghost use Rattle.std.specs.Prelude.{◌≡◌, ◌<◌, ◌++◌, flat_map, All,
 ghost use Rattle.report_text.specs.Lines.{row_line};
 ghost use Rattle.report_text.specs.PrintableRows.{IsPrintableRow};
 
-use crate::groups::{cut_rows, push_groups, render_groups};
+use crate::shares::render_shares;
 use crate::workers::Workers;
 use column_store::Table;
 use csv_source::NoMemory;
 use std::thread::Threads;
-use text_pieces::Pieces;
+use text_pieces::{Pieces, cut_shares, push_shares};
 
 /// With fewer rows than that one worker is done before others are made.
 const MANY_ROWS: usize = 4096;
@@ -35,7 +35,7 @@ pub(crate) fn push_table<R: Threads + Sync>(
 {
     let rows = table.rows();
     let count = worker_count(rows, workers.threads);
-    let mut groups = cut_rows(workers.alloc, rows, count)?;
-    render_groups(workers.rt, workers.alloc, table, groups.as_mut_slice());
-    push_groups(into, groups)
+    let mut shares = cut_shares(workers.alloc, rows, count)?;
+    render_shares(workers.rt, workers.alloc, table, shares.as_mut_slice());
+    push_shares(into, shares)
 }

@@ -1,7 +1,7 @@
 use Rattle.std.proofs.Common.{◌++◌, ap, ◌∙◌, arith}
 use Rattle.std.specs.Prelude.{flat_map}
 use Rattle.report_text.specs.Lines.{row_line}
-use Rattle.report_text.proofs.Ranges.{range-cut}
+use Rattle.text_pieces.proofs.Ranges.{range-cut}
 use Rattle.report_text.proofs.RowTexts.{line_appended}
 use Rattle.report_text.proofs.rows.push_part.Goals as goal
 
