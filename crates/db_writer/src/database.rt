@@ -22,6 +22,14 @@ use std::alloc::Global;
 use std::thread::Threads;
 use text_pieces::Pieces;
 
+/// A table to be written: its name, what was found of its columns, and its rows.
+#[derive(Clone, Copy)]
+struct NamedTable<'a> {
+    name: &'a [u8],
+    sniffed: &'a Sniffed,
+    rows: &'a Table,
+}
+
 /// Appends a table by its leaves.
 fn push_leaves(
     alloc: Global,
@@ -63,20 +71,20 @@ fn push_rows_table<R: Threads + Sync>(
     rt: &R,
     alloc: Global,
     image: &mut Image,
-    table: &[u8],
-    sniffed: &Sniffed,
-    rows: &Table,
+    table: &NamedTable<'_>,
     threads: u32,
 ) -> Result<(), NoMemory>
-    requires names { length sniffed.now.names ≡ length sniffed.now.types }
+    requires names { length table.now.sniffed.now.names ≡ length table.now.sniffed.now.types }
     requires threads { (1 ≤ threads) × (threads ≤ 64) }
-    requires writable { All IsWritableRow rows.now.rows }
-    ensures ok { OnOk result (image.new ≡ with_tabled image.old (rows_table table.now sniffed.now rows.now.rows)) }
+    requires writable { All IsWritableRow table.now.rows.now.rows }
+    ensures ok { let rows = rows_table table.now.name.now table.now.sniffed.now table.now.rows.now.rows in
+        OnOk result (image.new ≡ with_tabled image.old rows) }
 {
-    let sql = create_text(alloc, table, &sniffed.names, &sniffed.types)?;
-    let pages = write_pages(rt, alloc, rows, image.next_place(), threads)?;
+    let sniffed = table.sniffed;
+    let sql = create_text(alloc, table.name, &sniffed.names, &sniffed.types)?;
+    let pages = write_pages(rt, alloc, table.rows, image.next_place(), threads)?;
     let tree = pages.finish()?;
-    image.push(table, &sql, tree)
+    image.push(table.name, &sql, tree)
 }
 
 /// Appends the table of the scans.
@@ -138,7 +146,12 @@ pub fn write_database<R: Threads + Sync>(
 {
     tables_follow();
     let mut image = Image::new(alloc);
-    push_rows_table(rt, alloc, &mut image, table, sniffed, rows, threads)?;
+    let named = NamedTable {
+        name: table,
+        sniffed,
+        rows,
+    };
+    push_rows_table(rt, alloc, &mut image, &named, threads)?;
     push_scans_table(alloc, &mut image, sniffed, files)?;
     push_errors_table(alloc, &mut image, files)?;
     image.finish()
