@@ -5,11 +5,11 @@ use Rattle.std.specs.Bool.{MatchBool}
 use Rattle.std.specs.List.{find, range_with_len}
 use Rattle.std.specs.Str.{bytes_eq}
 use Rattle.std.proofs.lemmas.Bool.{cases_Bool}
-use Rattle.std.proofs.lemmas.List.{reverse-append}
 use Rattle.std.proofs.lemmas.List.Sorted.{list_any-IsPermutation}
 use Rattle.std.proofs.lemmas.Slice.Eq.{bytes_eq-Decides}
 use Rattle.load_options.specs.Texts.{is_among}
 use Rattle.csv_sniffer.specs.ColumnNames.{with_number, first_free, is_key}
+use Rattle.csv_sniffer.proofs.NameSteps.{reversed}
 use Rattle.db_writer.specs.Naming.{clean_name, database_names, is_same_name, names_apart}
 
 -- ---- the first number that is free
@@ -44,9 +44,6 @@ module _ (is_taken : List ℕ → Bool) (name : List ℕ) (count : ℕ) where
       ap (λ n. unwrap_or (find (λ other. not (is_taken other)) (map (with_number name) (range_with_len (tried + 1) n))) name) over
 
 -- ---- one name more
-
-pub reversed : (names more : List (List ℕ)) (name : List ℕ) → more ≡ names ++ name ∷ [] → reverse more ≡ name ∷ reverse names
-reversed names more name grown = ap reverse grown ∙ reverse-append names (name ∷ [])
 
 pub next_name : (names more : List (List ℕ)) (name wanted : List ℕ) (later whole : List (List ℕ)) → more ≡ names ++ name ∷ [] →
     name ≡ first_free (is_same_name (reverse names)) (length (reverse names)) wanted → names ++ names_apart (reverse names) (wanted ∷ later) ≡ whole → more ++ names_apart (reverse more) later ≡ whole

@@ -2,9 +2,9 @@ use Rattle.std.proofs.Common.{◌≡◌, ℕ, ◌+◌, List, [], ◌∷◌, ◌+
 use Rattle.std.proofs.lemmas.List.{length-reverse}
 use Rattle.load_options.specs.Texts.{is_among}
 use Rattle.csv_sniffer.specs.ColumnNames.{first_free}
-use Rattle.csv_sniffer.proofs.NameSteps.{first_free-agree}
+use Rattle.csv_sniffer.proofs.NameSteps.{first_free-agree, reversed}
 use Rattle.db_writer.specs.Naming.{clean_name, folded, is_same_name, is_taken, names_apart}
-use Rattle.db_writer.proofs.NamesApart.{reversed, next_key, next_name}
+use Rattle.db_writer.proofs.NamesApart.{next_key, next_name}
 use Rattle.db_writer.proofs.RowsLaid.{drop-at}
 use Rattle.db_writer.proofs.naming.database_names.Goals as goal
 
