@@ -2,7 +2,7 @@ use Rattle.std.proofs.Common.{arith}
 use Rattle.csv_sniffer.proofs.KeptTypes.{keeps_by_date}
 use Rattle.csv_sniffer.proofs.possible_types.PossibleTypes.only.Goals as goal
 
-pub returns-in-false-false-true-false-default : goal.returns-in-false-false-true-false-default
-returns-in-false-false-true-false-default c text is =
-    let found = c.in-false-false-true-false-default in
-    keeps_by_date c.args.self.now text (grind (arith, c.if-not-self.false)) found.is-0 found.is-1 found.is-2 found.is-3 is
+pub returns-in-false-true-false-default : goal.returns-in-false-true-false-default
+returns-in-false-true-false-default c text is =
+    let found = c.in-false-true-false-default in
+    keeps_by_date c.args.self.now text (grind (arith, c.if-not-self.false)) found.is-0 c.if-self.false found.is-1 found.is-2 is
