@@ -1,6 +1,5 @@
 -- The best candidate so far, one by one.
 use Rattle.std.proofs.Common.{◌≡◌, ℕ, ◌+◌, ◌<◌, Bool, true, false, cond, List, length, get_or, map, Some, slice_get, refl, sym, ap, ◌∙◌, subst, arith}
-use Rattle.std.specs.Cmp.{IsStrictWeakOrder}
 use Rattle.std.specs.List.{IsFirstBest}
 use Rattle.std.proofs.lemmas.List.{get_or-map, length-map}
 use Rattle.std.proofs.lemmas.List.MinMax.{IsFirstBest-keeps, IsFirstBest-none, IsFirstBest-takes, IsFirstBest-unique}
@@ -11,7 +10,7 @@ use Rattle.dialect_rank.specs.declared.ranked.Ranked.{Ranked}
 use Rattle.dialect_rank.specs.Rank.{is_above, best_place}
 use Rattle.dialect_rank.specs.Ranked.{higher, ranked_of}
 use Rattle.dialect_rank.specs.Score.{score_of}
-use Rattle.dialect_rank.proofs.RankLaws.{is_above-back, is_above-trans, best_is_first_highest, is_ranked}
+use Rattle.dialect_rank.proofs.RankLaws.{best_is_first_highest, is_ranked}
 
 module _ (sample : List ℕ) (whole : Bool) (size : ℕ) (candidates : List Marks) (default : Marks) where
   abbrev score : Marks → Score
