@@ -19,12 +19,11 @@ use crate::scanner::Scanner;
 use crate::stages::stages_of;
 use crate::windows::Windows;
 use csv_source::{Gate, Source};
-use range_scan::{Context, RangeScanner};
-use std::alloc::Global;
+use range_scan::RangeScanner;
 use std::collections::VecDeque;
 use std::sync::Wait;
 use std::thread::Threads;
-use window_load::{DataRead, InputWindow, LoadStop, WindowRead};
+use window_load::{DataLoader, DataRead, InputWindow, LoadStop, WindowRead};
 
 impl<'r, 'a, R: Threads + Wait + Sync, G: Gate> Pipeline<'r, 'a, R, G> {
     /// Loads data of which the head was read. The source may give fewer bytes than there is room for.
@@ -93,31 +92,25 @@ impl<'r, 'a, R: Threads + Wait + Sync, G: Gate> Pipeline<'r, 'a, R, G> {
 /// of the source. It is read to its end while `threads` stages scan what came. With `stop` the answer is the first reject,
 /// if there is one.
 pub fn pipe_load<R: Threads + Wait + Sync, S: Source + Send, G: Gate>(
-    rt: &R,
-    alloc: Global,
-    context: &Context,
+    loader: &DataLoader<'_, R, G>,
     head: InputWindow,
     data_start: usize,
     source: &mut S,
-    range_size: u64,
-    stop: bool,
-    threads: u32,
-    gate: &G,
 ) -> Result<WindowRead, LoadStop>
     requires begins { head.base ≡ 0 }
     requires place { data_start ≤ length head.kept }
     requires room { head.most ≤ 2 ^ 32 }
     requires at_end { head.ended ≡ true → IsAtEnd (S.left source.old) }
-    requires some { 0 < range_size }
-    requires within { range_size ≤ RANGE_SIZE.most }
-    requires line { context.now.schema.max_line_size ≤ MAX_LINE_SIZE.most }
-    requires fits { HasColumns context.now.schema }
-    requires threads { (1 ≤ threads) × (threads ≤ 64) }
-    requires keep { stop ≡ true → context.now.keep ≡ first_of 1 }
+    requires some { 0 < loader.now.range_size }
+    requires within { loader.now.range_size ≤ RANGE_SIZE.most }
+    requires line { loader.now.context.now.schema.max_line_size ≤ MAX_LINE_SIZE.most }
+    requires fits { HasColumns loader.now.context.now.schema }
+    requires threads { (1 ≤ loader.now.threads) × (loader.now.threads ≤ 64) }
+    requires keep { loader.now.stop ≡ true → loader.now.context.now.keep ≡ first_of 1 }
 
     // All of the data were read, and nothing is left.
     ensures ok { IfOk result (λ read. ComesWhole (S.left source.old) (S.left source.new) head
-        (λ input. IsWindowRead context.now (drop data_start input) data_start range_size stop read)) }
+        (λ input. IsWindowRead loader.now.context.now (drop data_start input) data_start loader.now.range_size loader.now.stop read)) }
     // The input is over its limit, and one byte over it was read.
     ensures too_large { result ≡ Err stops.TooLarge → ComesOver (S.left source.old) (S.left source.new) head }
     ensures failed { result ≡ Err stops.Failed → Rose (S.faults source.old) (S.faults source.new) }
@@ -132,18 +125,20 @@ pub fn pipe_load<R: Threads + Wait + Sync, S: Source + Send, G: Gate>(
     }
     let mut window = head;
     window.drop_front(data_start);
-    let layout = layout_of(data_start as u64, range_size, context.schema.max_line_size);
+    let (alloc, context) = (loader.alloc, loader.context);
+    let most_line = context.schema.max_line_size;
+    let layout = layout_of(data_start as u64, loader.range_size, most_line);
     let ranges = RangeScanner {
         alloc,
         context,
-        gate,
+        gate: loader.gate,
     };
     let scanner = Scanner { ranges, layout };
     let pipeline = Pipeline {
-        rt,
+        rt: loader.rt,
         scanner,
-        threads,
+        threads: loader.threads,
     };
     let read = pipeline.load_rest(window.bytes(), room, ended, source)?;
-    Ok(up_to_reject(alloc, read, stop)?)
+    Ok(up_to_reject(alloc, read, loader.stop)?)
 }

@@ -9,7 +9,7 @@ use std::sync::Wait;
 use std::test::Fail;
 use std::thread::Threads;
 use value_types::ColumnType;
-use window_load::{InputWindow, LoadStop, WindowRead, window_load};
+use window_load::{DataLoader, InputWindow, LoadStop, WindowRead, window_load};
 
 /// How a text is read.
 #[derive(Clone, Copy)]
@@ -70,32 +70,19 @@ fn read_in<R: Threads + Wait + Sync + Abort>(
     assert!(rt; source.open("f.csv").is_ok());
     let mut window = InputWindow::new(alloc, most);
     window.fill_to(&mut source, head)?;
-    if by_stages {
-        return pipe_load(
-            rt,
-            alloc,
-            &context,
-            window,
-            0,
-            &mut source,
-            range_size,
-            stop,
-            threads,
-            &OpenGate,
-        );
-    }
-    window_load(
+    let loader = DataLoader {
         rt,
         alloc,
-        &context,
-        window,
-        0,
-        &mut source,
+        context: &context,
         range_size,
         stop,
         threads,
-        &OpenGate,
-    )
+        gate: &OpenGate,
+    };
+    if by_stages {
+        return pipe_load(&loader, window, 0, &mut source);
+    }
+    window_load(&loader, window, 0, &mut source)
 }
 
 /// Rows with quotes, line ends in them, and now and then a fault.

@@ -10,7 +10,7 @@ use std::sync::atomic::{AtomicU64, Ordering};
 use std::test::Fail;
 use std::thread::Threads;
 use value_types::ColumnType;
-use window_load::InputWindow;
+use window_load::{DataLoader, InputWindow};
 
 /// How often one looks for the other before it gives up.
 const TURNS: u64 = 1_000_000_000;
@@ -108,18 +108,17 @@ fn check_meeting<R: Threads + Wait + Sync + Abort>(
         ahead,
         flags: &flags,
     };
-    let read = pipe_load(
+    let loader = DataLoader {
         rt,
         alloc,
-        &context,
-        InputWindow::new(alloc, 1_073_741_824),
-        0,
-        &mut source,
+        context: &context,
         range_size,
-        false,
-        2,
-        &Meeting { flags: &flags },
-    );
+        stop: false,
+        threads: 2,
+        gate: &Meeting { flags: &flags },
+    };
+    let head = InputWindow::new(alloc, 1_073_741_824);
+    let read = pipe_load(&loader, head, 0, &mut source);
     assert_eq!(rt; told_of(&read)[1], rows as u64);
     assert_eq!(rt; flags.given_up.load(Ordering::SeqCst), 0);
     Ok(())

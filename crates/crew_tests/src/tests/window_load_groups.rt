@@ -11,7 +11,7 @@ use std::process::Abort;
 use std::test::Fail;
 use std::thread::Threads;
 use value_types::{Cell, ColumnType};
-use window_load::{DataRead, InputWindow, LoadStop, WindowRead, window_load};
+use window_load::{DataLoader, DataRead, InputWindow, LoadStop, WindowRead, window_load};
 
 /// How a text is read.
 #[derive(Clone, Copy)]
@@ -143,18 +143,16 @@ fn read_in<R: Threads + Sync + Abort>(
     )?;
     let mut head = InputWindow::new(alloc, way.most);
     head.fill_to(source, way.head)?;
-    window_load(
+    let loader = DataLoader {
         rt,
         alloc,
-        &context,
-        head,
-        0,
-        source,
-        way.range_size,
-        way.stop,
-        way.threads,
-        &OpenGate,
-    )
+        context: &context,
+        range_size: way.range_size,
+        stop: way.stop,
+        threads: way.threads,
+        gate: &OpenGate,
+    };
+    window_load(&loader, head, 0, source)
 }
 
 /// What the load of a text comes to, and how many bytes of it are left, up to 1,000.

@@ -9,7 +9,7 @@ use Rattle.pipe_load.proofs.loading.pipe_load.Goals as goal
 pub invariant_of-scanner : goal.invariant_of-scanner
 invariant_of-scanner g c = record {
   lies = subst IsLayout (sym c.layout_of-layout.ensures)
-      (layout_lies c.args.data_start c.args.range_size c.args.context.now.schema.max_line_size c.requires.some c.requires.within c.requires.line
+      (layout_lies c.args.data_start c.args.loader.now.range_size c.args.loader.now.context.now.schema.max_line_size c.requires.some c.requires.within c.requires.line
       (omega (arith, c.requires.place, c.requires.begins, c.requires.room, c.room-room.ensures.value, c.if-room-eq0.false)));
 }
 
@@ -22,8 +22,8 @@ pub returns-clause-ok : goal.returns-clause-ok
 returns-clause-ok g c =
     let l : Layout = c.layout_of-layout.result in
     let all = c.in_ok-read.ensures.ok in
-    comes_whole c.args.context.now l c.args.head c.drop_front.new.self c.args.data_start c.args.range_size c.room-room.result
+    comes_whole c.args.loader.now.context.now l c.args.head c.drop_front.new.self c.args.data_start c.args.loader.now.range_size c.room-room.result
     (g.S.Source.left c.args.source.now) (g.S.Source.left c.load_rest.new.source) c.requires.begins c.requires.place c.drop_front.ensures c.room-room.ensures.value
     (ap (λ (x : Layout). x.data_start) c.layout_of-layout.ensures) (ap (λ (x : Layout). x.range_size) c.layout_of-layout.ensures)
-    c.args.stop c.bytes.result.now c.in_ok-read.read c.in_ok-up_to_reject.field-0 c.bytes.ensures (all.0, (λ e. all.1 (c.ended-ended.ensures ∙ e)), all.2)
-    (λ is. c.in_ok-up_to_reject.ensures c.args.context.now _ l.data_start l.range_size c.requires.keep is)
+    c.args.loader.now.stop c.bytes.result.now c.in_ok-read.read c.in_ok-up_to_reject.field-0 c.bytes.ensures (all.0, (λ e. all.1 (c.ended-ended.ensures ∙ e)), all.2)
+    (λ is. c.in_ok-up_to_reject.ensures c.args.loader.now.context.now _ l.data_start l.range_size c.requires.keep is)
