@@ -7,8 +7,8 @@ use Rattle.report_text.proofs.rows.push_part.Goals as goal
 
 pub loop-row-preserved : goal.loop-row-preserved
 loop-row-preserved c =
-    line_appended c.args.chunk.now.rows c.min-first.result c.loop-row.row c.args.into.now.items c.loop-row.into.items c.push_row.new.into.items
-    (omega arith) (omega arith) c.loop-row.invariant c.in_ok-push_row.ensures
+    line_appended c.args.chunk.now.rows c.min-first.result c.loop-row.row c.args.into.now.items c.make_room.new.into.items c.push_row.new.into.items
+    (omega arith) (omega arith) (c.make_room.ensures ∙ c.loop-row.invariant) c.in_ok-push_row.ensures
 
 pub returns : goal.returns
 returns c =
