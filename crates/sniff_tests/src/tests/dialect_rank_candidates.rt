@@ -6,15 +6,13 @@ ghost use Rattle.load_options.specs.Accepted.{IsAccepted};
 use super::words::options_of;
 use byte_classes::Dialect;
 use csv_source::NoMemory;
-use dialect_rank::{
-    SearchedSample, absent_quotes, best, candidates, higher, rank, sample_rows, score,
-};
+use dialect_rank::{best, candidates, sample_rows, score};
 use load_options::Options;
 use std::alloc::Global;
 use std::process::Abort;
 use std::test::Fail;
 
-fn dialect(rt: &impl Abort, delim: u8, quote: u8, escape: u8) -> Dialect
+pub fn dialect(rt: &impl Abort, delim: u8, quote: u8, escape: u8) -> Dialect
     requires within { AreAscii delim (Some quote) (Some escape) }
 {
     let Ok(dialect) = Dialect::new(delim, Some(quote), Some(escape)) else {
@@ -76,7 +74,7 @@ fn counts(
     ])
 }
 
-const FLIGHTS: &str =
+pub const FLIGHTS: &str =
     "FlightDate|UniqueCarrier|OriginCityName|DestCityName\n1988-01-01|AA|New York, NY|Los Angeles, CA\n1988-01-02|AA|New York, NY|Los Angeles, CA\n1988-01-03|AA|New York, NY|Los Angeles, CA\n";
 
 const ESCAPED: &str = "\"a\\\"b\",c\n";
@@ -145,52 +143,6 @@ fn a_sampled_row_has_a_start_and_an_end(rt: HostRuntime) -> Result<(), Fail> {
     let rows = sample_rows(rt.alloc(), &comma, b"\na,b\r\nc,d", false, 20_480)?;
     assert!(rt; rows.len() == 1);
     assert_eq!(rt; rows.get(0), (1, 4));
-    Ok(())
-}
-
-#[test]
-fn the_higher_of_two_is_kept(rt: HostRuntime) -> Result<(), Fail> {
-    let alloc = rt.alloc();
-    let text = FLIGHTS.as_bytes();
-    let comma = dialect(&rt, b',', b'"', b'"');
-    let bar = dialect(&rt, b'|', b'"', b'"');
-    let first = rank(alloc, &comma, text, true, 20_480)?;
-    assert_eq!(rt; (first.score.mode, first.score.agree), (3, 3));
-    let sample = SearchedSample::new(text, true, 20_480);
-    let second = higher(alloc, first, &bar, &sample)?;
-    assert_eq!(rt; second.dialect, bar);
-    assert_eq!(rt; (second.score.mode, second.score.agree), (4, 4));
-    let third = higher(alloc, second, &comma, &sample)?;
-    assert_eq!(rt; third.dialect, bar);
-    Ok(())
-}
-
-#[test]
-fn quotes_that_a_sample_does_not_have_are_known(rt: HostRuntime) -> Result<(), Fail> {
-    let absent = absent_quotes(b"a,'b'\n");
-    assert_eq!(rt; (absent.double, absent.single), (true, false));
-    let absent = absent_quotes(b"a,b\"");
-    assert_eq!(rt; (absent.double, absent.single), (false, true));
-    let absent = absent_quotes(b"");
-    assert_eq!(rt; (absent.double, absent.single), (true, true));
-    Ok(())
-}
-
-/// All rows agree on two columns under both dialects, but only one of them closes quotes.
-#[test]
-fn quotes_raise_a_dialect_above_one_without(rt: HostRuntime) -> Result<(), Fail> {
-    let alloc = rt.alloc();
-    let text = b"a,b;c\n'x';'y,z'\n'u';'v,w'\n";
-    let sample = SearchedSample::new(text, true, 20_480);
-    let comma = dialect(&rt, b',', b'"', b'"');
-    let double = dialect(&rt, b';', b'"', b'"');
-    let single = dialect(&rt, b';', b'\'', b'\'');
-    let first = rank(alloc, &comma, text, true, 20_480)?;
-    assert_eq!(rt; (first.score.agree, first.score.closed), (3, 0));
-    let second = higher(alloc, first, &double, &sample)?;
-    assert_eq!(rt; second.dialect, comma);
-    let third = higher(alloc, second, &single, &sample)?;
-    assert_eq!(rt; third.dialect, single);
     Ok(())
 }
 
