@@ -1,9 +1,9 @@
 -- The lines of an explanation (this loader's profile).
-use Rattle.std.specs.Prelude.{ℕ, Bool, true, false, if◌then◌else◌, List, [], ◌∷◌, ◌++◌, flat_map, codes, Some}
+use Rattle.std.specs.Prelude.{ℕ, Bool, true, false, List, [], ◌∷◌, ◌++◌, flat_map, codes, Some}
 use Rattle.std.specs.Fmt.{decimal}
 use Rattle.std.specs.Str.{byte}
 use Rattle.csv_source.specs.Line.{line_of}
-use Rattle.csv_source.specs.Shown.{shown, shown_byte, shown_option}
+use Rattle.csv_source.specs.Shown.{shown, shown_option}
 use Rattle.value_types.specs.declared.types.ColumnType.{ColumnType}
 use Rattle.value_types.specs.TypeName.{name_of_type}
 use Rattle.value_types.specs.ValueText.{truth_text}
