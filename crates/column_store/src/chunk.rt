@@ -8,6 +8,7 @@ ghost use Rattle.column_store.specs.TableView.{cell_of};
 
 mod fronts;
 mod measuring;
+mod room;
 mod views;
 mod whole_rows;
 

@@ -15,57 +15,6 @@ pub(crate) fn rows_room(rows: usize, columns: usize) -> usize {
     rows.saturating_mul(columns.saturating_mul(16))
 }
 
-/// From so many columns on the cells of a row to come are looked at before the next rows are written. Each column lies in memory
-/// of its own, and what a number's digits are decides where the code goes on: so what isn't in the caches is waited for side by
-/// side, and not cell by cell. Fewer columns are fetched ahead by the processor.
-const MANY: usize = 16;
-
-/// So many numbers of eight bytes stand in a line of the cache.
-const LINE: usize = 8;
-
-/// About how many bytes a cell takes.
-#[inline(always)]
-fn cell_room(cell: Cell<'_>) -> usize {
-    match cell {
-        Cell::Null => 1,
-        Cell::Value(Value::Int(number)) => {
-            if number.unsigned_abs() < 10_000_000 {
-                9
-            } else {
-                21
-            }
-        }
-        Cell::Value(_) => 27,
-        Cell::Text(text) => text.len(),
-    }
-}
-
-/// About how many bytes a row takes.
-#[inline(always)]
-fn row_room(chunk: &Chunk, row: usize) -> usize
-    requires { row < length chunk.now.rows }
-{
-    let mut room: usize = 0;
-    for column in 0..chunk.columns() {
-        room = room.saturating_add(cell_room(chunk.cell_at(column, row)));
-    }
-    room
-}
-
-/// Makes room for a row to come, once for as many rows as have numbers in one line of the cache. To ask what it takes fetches
-/// the lines that all of them reach into, before the first is written.
-#[inline(always)]
-fn make_room(into: &mut Vec<u8>, chunk: &Chunk, row: usize)
-    requires { row < length chunk.now.rows }
-    ensures { into.new.items ≡ into.old.items }
-{
-    if chunk.columns() >= MANY && row % LINE == 0 {
-        let last = row.saturating_add(LINE - 1).min(chunk.rows() - 1);
-        // Where so much can't be had at once, the text may still grow into less.
-        let _ = into.reserve(row_room(chunk, last));
-    }
-}
-
 /// Appends a cell.
 #[inline(always)]
 fn push_cell(into: &mut Vec<u8>, cell: Cell<'_>) -> Result<(), NoMemory>
@@ -106,7 +55,7 @@ fn push_part(into: &mut Vec<u8>, chunk: &Chunk, from: usize, to: usize) -> Resul
     let rows = chunk.rows();
     let first = from.min(rows);
     for row in first..to.min(rows) {
-        make_room(into, chunk, row);
+        chunk.make_room(into, row);
         push_row(into, chunk, row)?;
     }
     Ok(())
