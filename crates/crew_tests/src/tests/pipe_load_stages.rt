@@ -10,7 +10,7 @@ use std::sync::atomic::{AtomicU64, Ordering};
 use std::test::Fail;
 use std::thread::Threads;
 use value_types::ColumnType;
-use window_load::{DataLoader, InputWindow};
+use window_load::{DataLoader, InputWindow, LoadStop, WindowRead};
 
 /// How often one looks for the other before it gives up.
 const TURNS: u64 = 1_000_000_000;
@@ -82,6 +82,29 @@ impl Source for Waiting<'_> {
     }
 }
 
+/// What two stages read of a source.
+fn load_in<R: Threads + Wait + Sync + Abort, S: Source + Send, G: Gate>(
+    rt: &R,
+    alloc: Global,
+    range_size: u64,
+    source: &mut S,
+    gate: &G,
+) -> Result<WindowRead, LoadStop> {
+    assert!(rt; 0 < range_size && range_size <= 1_000_000);
+    let context = context_of(alloc, commas(rt), ColumnType::Bigint, 30, false)?;
+    let loader = DataLoader {
+        rt,
+        alloc,
+        context: &context,
+        range_size,
+        stop: false,
+        threads: 2,
+        gate,
+    };
+    let head = InputWindow::new(alloc, 1_073_741_824);
+    pipe_load(&loader, head, 0, source)
+}
+
 /// Reads so many rows of 8 bytes, where no scan goes on before so many bytes are read, and these are the last that are read
 /// before a scan has begun.
 fn check_meeting<R: Threads + Wait + Sync + Abort>(
@@ -91,8 +114,6 @@ fn check_meeting<R: Threads + Wait + Sync + Abort>(
     range_size: u64,
     ahead: u64,
 ) -> Result<(), Fail> {
-    assert!(rt; 0 < range_size && range_size <= 1_000_000);
-    let context = context_of(alloc, commas(rt), ColumnType::Bigint, 30, false)?;
     let flags = Flags {
         scanning: AtomicU64::new(0),
         ahead: AtomicU64::new(0),
@@ -108,17 +129,8 @@ fn check_meeting<R: Threads + Wait + Sync + Abort>(
         ahead,
         flags: &flags,
     };
-    let loader = DataLoader {
-        rt,
-        alloc,
-        context: &context,
-        range_size,
-        stop: false,
-        threads: 2,
-        gate: &Meeting { flags: &flags },
-    };
-    let head = InputWindow::new(alloc, 1_073_741_824);
-    let read = pipe_load(&loader, head, 0, &mut source);
+    let gate = Meeting { flags: &flags };
+    let read = load_in(rt, alloc, range_size, &mut source, &gate);
     assert_eq!(rt; told_of(&read)[1], rows as u64);
     assert_eq!(rt; flags.given_up.load(Ordering::SeqCst), 0);
     Ok(())
