@@ -1,5 +1,5 @@
 -- Quotes that are doubled: where the next one stands, and what it is by the byte behind it.
-use Rattle.std.proofs.Common.{◌≡◌, ℕ, ◌+◌, ◌<◌, Bool, true, false, ◌||◌, cond, List, length, get_or, refl, sym, ◌∙◌, ap, subst, inl, inr, arith}
+use Rattle.std.proofs.Common.{◌≡◌, ℕ, ◌+◌, ◌<◌, Bool, true, false, cond, List, length, get_or, refl, sym, ◌∙◌, ap, subst, inl, inr, arith}
 use Rattle.std.specs.Prelude.{◌==◌, Option, Some, None}
 use Rattle.std.specs.Option.{option_eq}
 use Rattle.std.proofs.lemmas.Bool.{eqb-true, eqb-false, ne_eqb, cases_lt}
@@ -11,16 +11,12 @@ use Rattle.byte_classes.specs.Class.{class_of}
 use Rattle.byte_classes.specs.Places.{first_place}
 use Rattle.byte_classes.specs.Special.{is_special, next_special}
 use Rattle.byte_classes.proofs.ClassLaws.{class_of-quote, class_of-other}
-use Rattle.byte_classes.proofs.SpecialLaws.{special_inside, found_alike}
+use Rattle.byte_classes.proofs.SpecialLaws.{special_inside, found_alike, thrice}
 use Rattle.row_fields.specs.declared.field.Role.TheVariants as role
 use Rattle.quote_automaton.specs.Automaton.{IsDoubling}
 use Rattle.row_fields.specs.Reading.{HasRole, role_before}
 use Rattle.row_fields.proofs.FieldReading.{doubles_quotes-true}
 use Rattle.row_fields.proofs.Roles.{is_last_quote, is_quote_before}
-
-thrice : (t : Bool) → ((t || t) || t) ≡ t
-thrice true = refl
-thrice false = refl
 
 module _ (d : Marks) (q : ℕ) (dialect : IsDialect d) (h : IsDoubling d q) where
   -- inside quotes the quote alone is special

@@ -15,7 +15,7 @@ use csv_source::NoMemory;
 
 /// Whether the quote stands behind a place, too.
 #[inline(always)]
-fn is_doubled(quote: u8, bytes: &[u8], at: usize) -> bool
+pub fn is_doubled(quote: u8, bytes: &[u8], at: usize) -> bool
     requires within { at ≤ length bytes.now }
     ensures yes { result ≡ true → (at + 1 < length bytes.now) × (slice_index bytes.now (at + 1) ≡ quote) }
     ensures no { result ≡ false → at + 1 < length bytes.now → (slice_index bytes.now (at + 1) == quote) ≡ false }

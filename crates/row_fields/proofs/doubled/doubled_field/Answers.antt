@@ -1,6 +1,6 @@
-use Rattle.std.proofs.Common.{◌≡◌, ℕ, ◌+◌, ◌-◌, ◌<◌, ◌≤◌, ◌||◌, cond, Bool, true, false, List, [], ◌++◌, length, get_or, refl, arith, sym, ap, subst, ◌∙◌, Vec, Global, rules}
+use Rattle.std.proofs.Common.{◌≡◌, ℕ, ◌+◌, ◌-◌, ◌<◌, ◌≤◌, true, List, ◌++◌, length, get_or, refl, arith, sym, ap, subst, ◌∙◌, Vec, Global, rules}
 use Rattle.std.specs.Prelude.{Some, slice_range}
-use Rattle.std.proofs.lemmas.List.{append-nil}
+use Rattle.std.proofs.Math.Bool.{or-true}
 use Rattle.byte_classes.specs.Class.{class_of}
 use Rattle.byte_classes.specs.Dialect.{Marks}
 use Rattle.byte_classes.specs.declared.class.Class.TheVariants as class
@@ -10,17 +10,13 @@ use Rattle.row_fields.specs.Reading.{HasRole}
 use Rattle.row_fields.specs.declared.field.Role.TheVariants as role
 use Rattle.row_fields.proofs.Doubling.{found_quote, is_quote, doubled_role, closing_role, breaking_role}
 use Rattle.row_fields.proofs.QuotedReading.{ReadInside, opens, goes_on, closes, breaks, run_stands}
-use Rattle.row_fields.proofs.Unescaping.{CopiedUpTo, copied_none, copied_pair, copied_all}
+use Rattle.row_fields.proofs.Unescaping.{CopiedUpTo, by_flag, copied_none, copied_pair, copied_all}
 use Rattle.row_fields.proofs.doubled.doubled_field.Goals as goal
 use Rattle.row_fields.proofs.doubled.doubled_field.Goals.{then-escaped+in_ok-append-2, else-escaped}
 
 -- the opening quote
 opening : (d : Marks) (q b : ℕ) → IsDoubling d q → b ≡ q → d.quote ≡ Some b
 opening d q b h is = h.quote ∙ ap Some (sym is)
-
-or_true : (e : Bool) → (e || true) ≡ true
-or_true true = refl
-or_true false = refl
 
 pub quotes-init : goal.quotes-init
 quotes-init c =
@@ -55,7 +51,7 @@ quotes-preserved c =
     let room : at + 2 ≤ length bytes = pair.0 in
     let run = run_stands d bytes from c.requires.sound c.requires.within fits (at + 2) r room is in
     record {
-      read = subst (ReadInside d bytes from r) (or_true c.quotes.escaped) (goes_on d bytes from c.requires.sound c.requires.within fits at r c.quotes.escaped true c.quotes.invariant.read pair is);
+      read = subst (ReadInside d bytes from r) (or-true c.quotes.escaped) (goes_on d bytes from c.requires.sound c.requires.within fits at r c.quotes.escaped true c.quotes.invariant.read pair is);
       copied = subst (CopiedUpTo d bytes (from + 1) (at + 1) r old) (sym c.in_ok-append.ensures.ok)
           (copied_pair d bytes (from + 1) old c.quotes.copied at r c.quotes.texts.items c.quotes.invariant.copied (omega (arith, room)) run.0 (pair.3 refl) run.1);
       plain = λ no. absurd (let wrong : ⊥ = cc in wrong);
@@ -101,11 +97,6 @@ returns-clause-reads c =
     let quote : class_of d (get_or bytes at 0) ≡ class.Quote = is_quote d q c.requires.sound c.requires.doubled (get_or bytes at 0) (c.quotes.invariant.read.special within) in
     closes d bytes from c.requires.sound c.requires.within fits at c.quotes.escaped c.quotes.invariant.read within
     (closing_role d q c.requires.sound c.requires.doubled bytes at quote within (c.goes_on.ensures.no c.if-goes_on.false))
-
--- what was appended, by whether anything had to be unescaped
-by_flag : (d : Marks) (text old texts : List ℕ) (escaped : Bool) → (escaped ≡ true → texts ≡ old ++ unescaped d text) → (escaped ≡ false → texts ≡ old) → texts ≡ old ++ cond escaped (unescaped d text) []
-by_flag d text old texts true value none = value refl
-by_flag d text old texts false value none = none refl ∙ sym (append-nil old)
 
 pub returns-clause-value : goal.returns-clause-value
 returns-clause-value c =
