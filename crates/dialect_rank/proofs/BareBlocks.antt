@@ -1,16 +1,15 @@
 -- Bytes without line ends and quotes, block by block.
-use Rattle.std.proofs.Common.{◌≡◌, ℕ, ◌+◌, ◌-◌, ◌<◌, ◌≤◌, ◌⊎◌, Bool, true, false, cond, not, List, ◌++◌, drop, take, length, get_or, refl, sym, ◌∙◌, ap, inl, inr, arith}
+use Rattle.std.proofs.Common.{◌≡◌, ℕ, ◌+◌, ◌-◌, ◌<◌, ◌≤◌, Bool, false, cond, not, List, ◌++◌, drop, take, length, get_or, refl, sym, ◌∙◌, ap, inl, inr, arith}
 use Rattle.std.specs.Prelude.{◌==◌, ◌||◌, Option, Some, None, count_by, unwrap_or}
 use Rattle.std.specs.List.{prefix_len}
 use Rattle.std.proofs.Math.Seq.{take-add}
-use Rattle.std.proofs.lemmas.Bool.{eq-eqb, ne_eqb, true≢false}
+use Rattle.std.proofs.lemmas.Bool.{cases_lt, eq-eqb, ne_eqb, not-true, or_parts, true≢false}
 use Rattle.std.proofs.lemmas.List.{get_or-take, length-take, take-take}
 use Rattle.std.proofs.lemmas.List.Sums.{prefix_len_passes, sum_by-append}
 use Rattle.std.proofs.lemmas.Simd.{get_or-chunk}
 use lib.Lanes.{chunk}
 use Rattle.byte_classes.specs.Dialect.{Marks, is_byte}
 use Rattle.byte_classes.specs.Special.{is_one_of}
-use Rattle.row_fields.proofs.Roles.{or_parts}
 use Rattle.dialect_rank.proofs.BareRows.{AllBare, IsBare}
 
 -- ---- what a byte isn't
@@ -31,24 +30,17 @@ all_bare d bytes end q is within none k lt =
 
 -- ---- one block more
 
-lt_or_le : (a b : ℕ) → (a < b) ⊎ (b ≤ a)
-lt_or_le a b = grind arith
-
-denied : (t : Bool) → not t ≡ true → t ≡ false
-denied true h = absurd (true≢false (sym h))
-denied false h = refl
-
 -- the run at the front of a block goes on from the bytes before it
 pub bare_on : (bytes lanes : List ℕ) (at q run : ℕ) → lanes ≡ chunk at 64 bytes → run ≡ prefix_len (λ b. not (is_one_of 10 13 q b)) lanes → run ≤ 64 →
     ((k : ℕ) → k < at → is_one_of 10 13 q (get_or bytes k 0) ≡ false) → (k : ℕ) → k < at + run → is_one_of 10 13 q (get_or bytes k 0) ≡ false
-bare_on bytes lanes at q run is counts few before k lt = elim (lt_or_le k at) [
+bare_on bytes lanes at q run is counts few before k lt = elim (cases_lt k at) [
   | inl first ↦ before k first
   | inr later ↦
       let j : ℕ = k - at in
       let below : j < run = omega (arith, lt, later) in
       let place : at + j ≡ k = omega (arith, later) in
       let here : get_or lanes j 0 ≡ get_or bytes k 0 = ap (λ l. get_or l j 0) is ∙ get_or-chunk at 64 bytes j 0 (omega (arith, below, few)) ∙ ap (λ n. get_or bytes n 0) place in
-      ap (is_one_of 10 13 q) (sym here) ∙ denied _ (prefix_len_passes (λ b. not (is_one_of 10 13 q b)) lanes j 0 (omega (arith, below, counts)))
+      ap (is_one_of 10 13 q) (sym here) ∙ not-true _ (prefix_len_passes (λ b. not (is_one_of 10 13 q b)) lanes j 0 (omega (arith, below, counts)))
 ]
 
 pub counted_on : (test : ℕ → Bool) (bytes lanes : List ℕ) (at run : ℕ) → lanes ≡ chunk at 64 bytes → run ≤ 64 →

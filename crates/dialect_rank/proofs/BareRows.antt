@@ -2,6 +2,7 @@
 use Rattle.std.proofs.Common.{◌≡◌, ℕ, zero, suc, ◌+◌, ◌-◌, ◌<◌, ◌≤◌, Bool, true, false, not, ◌&&◌, cond, List, [], ◌∷◌, ◌++◌, length, take, drop, get_or, refl, sym, ◌∙◌, ap, arith, take-append-drop}
 use Rattle.std.specs.Prelude.{◌==◌, None, Some, count_by, option_map}
 use Rattle.std.specs.Option.{is_none}
+use Rattle.std.proofs.lemmas.Bool.{or_parts}
 use Rattle.std.proofs.lemmas.List.{drop_more, get_or_default, length-take}
 use Rattle.std.proofs.lemmas.List.Sums.{sum_by-cons}
 use Rattle.byte_classes.specs.declared.class.Class.{Class}
@@ -21,12 +22,11 @@ use Rattle.row_fields.specs.Fields.{flaw_at, is_quote, is_separator, last_at, pu
 use Rattle.row_fields.specs.Reading.{broken_in}
 use Rattle.row_fields.specs.Split.{row_from}
 use Rattle.row_fields.proofs.Leading.{broken_in-cons, line_end_class}
-use Rattle.row_fields.proofs.Roles.{or_parts}
+use Rattle.row_fields.proofs.FieldCounts.{length-fields_from}
 use Rattle.row_fields.proofs.RowSteps.{broken_in-start, inside-start, raw_fields-start, row_at-start}
 use Rattle.dialect_rank.specs.RowCount.{HasCount}
 use Rattle.dialect_rank.specs.Score.{closed_fields}
 use Rattle.dialect_rank.proofs.Outranked.{none_closed}
-use Rattle.dialect_rank.proofs.Shapes.{length-fields}
 
 -- neither a line end nor the quote
 pub record IsBare (d : Marks) (b : ℕ) : Type 0 where
@@ -181,6 +181,6 @@ module _ (d : Marks) (bytes : List ℕ) (end : ℕ) (high : end < length bytes) 
     sound = ap (λ v. is_none {T = Flaw} (option_map (λ at. record { column = length (fields d v) - 1; at = at }) (flaw_at (broken_in d RowStart v) (is_inside_quotes (state_after d RowStart v)) (last_at d v)))) (sym row_is)
         ∙ (λ i. is_none {T = Flaw} (option_map (λ at. record { column = length (fields d row) - 1; at = at })
         (flaw_at ((broken_in-start d row begins ∙ unbroken d true row all) i) ((inside-start d row begins ∙ outside d true row all) i) (last_at d row))));
-    fields = sym (length-fields d 0 (raw_fields d RowStart row) ∙ ap length (raw_fields-start d row begins) ∙ raws_many d true row all) ∙ ap (λ v. length (fields d v)) row_is;
+    fields = sym (length-fields_from d 0 (raw_fields d RowStart row) ∙ ap length (raw_fields-start d row begins) ∙ raws_many d true row all) ∙ ap (λ v. length (fields d v)) row_is;
     closed = sym (none_closed d row (λ k other lt. ap (is_quote d) (get_or_default row k other 0 lt) ∙ (all k lt).quote)) ∙ ap (closed_fields d) row_is;
   }

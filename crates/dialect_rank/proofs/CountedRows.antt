@@ -1,81 +1,42 @@
 -- The fields of a row are counted one behind another.
-use Rattle.std.proofs.Common.{◌≡◌, ℕ, ◌+◌, ◌-◌, ◌<◌, ◌≤◌, Bool, true, false, cond, List, [], ◌∷◌, ◌++◌, length, get_or, refl, sym, ◌∙◌, ap, subst, inr, arith, append-nil}
-use Rattle.std.specs.Prelude.{◌==◌, None, count_by, option_map, slice_range}
-use Rattle.std.proofs.lemmas.Bool.{true≢false}
+use Rattle.std.proofs.Common.{◌≡◌, ℕ, ◌+◌, ◌<◌, Bool, true, false, cond, List, [], ◌∷◌, ◌++◌, length, get_or, refl, sym, ◌∙◌, ap, subst, inr, arith}
+use Rattle.std.specs.Prelude.{None, count_by, option_map}
 use Rattle.std.proofs.lemmas.List.{length_push, take_all}
 use Rattle.std.proofs.lemmas.List.Sums.{sum_by-append, sum_by-cons}
-use Rattle.std.proofs.lemmas.Option.{none-some}
-use Rattle.byte_classes.specs.declared.class.Class.TheVariants as class
 use Rattle.byte_classes.specs.Class.{class_of}
 use Rattle.byte_classes.specs.Dialect.{IsDialect, Marks, is_byte}
 use Rattle.byte_classes.specs.Fault.{is_line_end_byte}
-use Rattle.byte_classes.specs.Places.{first_place}
 use Rattle.byte_classes.specs.Special.{is_special, next_special}
-use Rattle.byte_classes.proofs.PlaceLaws.{first_place-within}
 use Rattle.quote_automaton.specs.Automaton.{IsDoubling}
 use Rattle.quote_automaton.specs.Rows.{begins_comment}
-use Rattle.row_fields.specs.declared.field.Ending.{Ending}
 use Rattle.row_fields.specs.declared.field.Ending.TheVariants as ending
 use Rattle.row_fields.specs.declared.field.FieldEnd.{FieldEnd}
 use Rattle.row_fields.specs.declared.span.Span.{Span}
-use Rattle.row_fields.specs.declared.span.Store.TheVariants.{Row}
-use Rattle.row_fields.specs.Fields.{Field, unescaped}
-use Rattle.row_fields.specs.Reading.{HasRead, PlacesField, ReadsField, flaw_place}
+use Rattle.row_fields.specs.Fields.{Field}
+use Rattle.row_fields.specs.Reading.{HasRead}
 use Rattle.row_fields.specs.Split.{IsSplit, Split, row_from, split_of}
 use Rattle.row_fields.proofs.BareReading.{reads_bare}
-use Rattle.row_fields.proofs.Doubling.{closing_role, doubled_role, found_quote, is_quote}
+use Rattle.row_fields.proofs.DoubledReading.{closed}
 use Rattle.row_fields.proofs.FrontReading.{IsLast, has_read_more, has_read_none, is_row_len, is_split}
-use Rattle.row_fields.proofs.Places.{places_plain, places_unescaped}
-use Rattle.row_fields.proofs.PlainReading.{bare_field_of, line_end_is_no_delim}
-use Rattle.row_fields.proofs.QuotedReading.{ReadInside, closes, goes_on, opens, run_stands}
-use Rattle.dialect_rank.specs.RowCount.{EndsWell, HasCount}
+use Rattle.row_fields.proofs.Places.{Placed, placed}
+use Rattle.row_fields.proofs.PlainReading.{line_end_is_no_delim}
+use Rattle.row_fields.proofs.QuotedReading.{ReadInside}
+use Rattle.dialect_rank.specs.RowCount.{HasCount, IsSoundField}
 use Rattle.dialect_rank.specs.Shape.{closed_in}
 use Rattle.dialect_rank.proofs.Shapes.{closed-is, shape-is}
 
 -- ---- where a field ends
 
-pub bare_end : (d : Marks) (bytes : List ℕ) (from end : ℕ) → from < length bytes → is_byte d.quote (get_or bytes from 0) ≡ false → end ≡ next_special d bytes from false → EndsWell d bytes from end false
+pub bare_end : (d : Marks) (bytes : List ℕ) (from end : ℕ) → from < length bytes → is_byte d.quote (get_or bytes from 0) ≡ false → end ≡ next_special d bytes from false → IsSoundField d bytes from end false
 bare_end d bytes from end within bare is =
     let reads = reads_bare d bytes from end (omega (arith, within)) (λ _. bare) is in
-    record { ending = ending.Bare; sound = refl; reads = reads; quote = reads.ends.0 }
+    (record { ending = ending.Bare; sound = refl; reads = reads }, reads.ends.0)
 
-module _ (d : Marks) (bytes : List ℕ) (from : ℕ) (sound : IsDialect d) (within : from < length bytes) (doubles : IsDoubling d (get_or bytes from 0)) where
-  abbrev q : ℕ
-  q = get_or bytes from 0
-
-  abbrev IsNextQuote : ℕ → ℕ → Type 0
-  IsNextQuote at r = r ≡ first_place (λ k. get_or bytes k 0 == q) at bytes
-
-  special : (at r : ℕ) → IsNextQuote at r → r ≡ next_special d bytes at true
-  special at r is = found_quote d q sound doubles bytes at r is
-
-  pub next_quote : (at r : ℕ) → at ≤ length bytes → r ≡ first_place (λ k. get_or bytes k 0 == get_or bytes from 0) at bytes → (at ≤ r) × (r ≤ length bytes)
-  next_quote at r le is = (
-    (run_stands d bytes from sound within doubles.quote at r le (special at r is)).0,
-    subst (λ n. n ≤ length bytes) (sym is) (first_place-within (λ k. get_or bytes k 0 == q) at bytes),
-  )
-
-  -- whether a pair was read is left open
-  either_way : (at : ℕ) → ReadInside d bytes from at false → ReadInside d bytes from at true
-  either_way at read = record { low = read.low; high = read.high; leads = read.leads; plain = λ none. absurd (true≢false none); special = read.special }
-
-  pub opened : (r : ℕ) → r ≡ first_place (λ k. get_or bytes k 0 == get_or bytes from 0) (from + 1) bytes → ReadInside d bytes from r true
-  opened r is = either_way r (opens d bytes from sound within doubles.quote r (special (from + 1) r is))
-
-  quote_at : (at : ℕ) → ReadInside d bytes from at true → at < length bytes → class_of d (get_or bytes at 0) ≡ class.Quote
-  quote_at at read lt = is_quote d q sound doubles (get_or bytes at 0) (read.special lt)
-
-  pub paired : (at r : ℕ) → ReadInside d bytes from at true → at + 1 < length bytes → get_or bytes (at + 1) 0 ≡ get_or bytes from 0 →
-      r ≡ first_place (λ k. get_or bytes k 0 == get_or bytes from 0) (at + 2) bytes → ReadInside d bytes from r true
-  paired at r read lt behind is =
-      let pair = doubled_role d q sound doubles bytes at (quote_at at read (omega (arith, lt))) lt behind in
-      goes_on d bytes from sound within doubles.quote at r true true read pair (special (at + 2) r is)
-
-  pub quoted_ends : (at : ℕ) → ReadInside d bytes from at true → at + 1 < length bytes → is_special false (class_of d (get_or bytes (at + 1) 0)) ≡ true → EndsWell d bytes from (at + 1) true
-  quoted_ends at read lt stops =
-      let inside : at < length bytes = omega (arith, lt) in
-      let reads = closes d bytes from sound within doubles.quote at true read inside (closing_role d q sound doubles bytes at (quote_at at read inside) inside (λ _. stops)) in
-      record { ending = ending.Closed true; sound = refl; reads = reads; quote = reads.ends.0 }
+pub quoted_end : (d : Marks) (bytes : List ℕ) (from : ℕ) → IsDialect d → from < length bytes → IsDoubling d (get_or bytes from 0) → (at : ℕ) → ReadInside d bytes from at true → at + 1 < length bytes →
+    is_special false (class_of d (get_or bytes (at + 1) 0)) ≡ true → IsSoundField d bytes from (at + 1) true
+quoted_end d bytes from sound within doubles at read lt stops =
+    let reads = closed d bytes from sound within doubles at true read lt stops in
+    (record { ending = ending.Closed true; sound = refl; reads = reads }, reads.ends.0)
 
 -- ---- the fields so far
 
@@ -93,36 +54,17 @@ pub record HasCounted (d : Marks) (bytes : List ℕ) (from fields quoted : ℕ) 
 pub none_counted : (d : Marks) (bytes : List ℕ) → HasCounted d bytes 0 0 0
 none_counted d bytes = record { spans = []; texts = []; read = has_read_none d bytes; many = refl; closed = refl }
 
--- where a field that ends well stands, behind any texts
-record Placed (d : Marks) (bytes : List ℕ) (from end : ℕ) (texts : List ℕ) : Type 0 where
-  new : List ℕ
-  span : Span
-  is : PlacesField d bytes from end texts new span
-
-placed : (d : Marks) (bytes : List ℕ) (from end : ℕ) (texts : List ℕ) (e : Ending) → flaw_place from e ≡ None → ReadsField d bytes from (record { at = end; ending = e }) → Placed d bytes from end texts
-placed d bytes from end texts ending.Bare sound reads = record {
-  new = texts;
-  span = record { at = from; from = from; end = end; store = Row; quoted = false };
-  is = record { is = sym (bare_field_of d from (slice_range bytes from end) reads.ends.0); within = (reads.low, omega arith); grown = ([], sym (append-nil texts)) };
-}
-placed d bytes from end texts (ending.Closed false) sound reads = record { new = texts; span = _; is = places_plain d bytes from (record { at = end; ending = ending.Closed false }) texts reads refl }
-placed d bytes from end texts (ending.Closed true) sound reads =
-    let new : List ℕ = texts ++ unescaped d (slice_range bytes (from + 1) (end - 1)) in
-    record { new = new; span = _; is = places_unescaped d bytes from (record { at = end; ending = ending.Closed true }) texts new (length texts) (length new) reads refl refl refl refl }
-placed d bytes from end texts ending.Open sound reads = absurd (none-some from (sym sound))
-placed d bytes from end texts (ending.Broken at) sound reads = absurd (none-some at (sym sound))
-
 count_push : (spans : List Span) (span : Span) → count_by is_quoted_span (spans ++ span ∷ []) ≡ count_by is_quoted_span spans + cond {A = ℕ} span.quoted 1 0
 count_push spans span =
     sum_by-append (λ (s : Span). cond {A = ℕ} s.quoted 1 0) spans (span ∷ [])
     ∙ ap (λ n. count_by is_quoted_span spans + n) (sum_by-cons (λ (s : Span). cond {A = ℕ} s.quoted 1 0) span [] ∙ omega arith)
 
-module _ (d : Marks) (sound : IsDialect d) (bytes : List ℕ) (from fields quoted : ℕ) (so : HasCounted d bytes from fields quoted) (end : ℕ) (more : Bool) (is : EndsWell d bytes from end more) (high : end < length bytes) where
+module _ (d : Marks) (sound : IsDialect d) (bytes : List ℕ) (from fields quoted : ℕ) (so : HasCounted d bytes from fields quoted) (end : ℕ) (more : Bool) (is : IsSoundField d bytes from end more) (high : end < length bytes) where
   abbrev field : FieldEnd
-  field = record { at = end; ending = is.ending }
+  field = record { at = end; ending = is.0.ending }
 
   place : Placed d bytes from end so.texts
-  place = placed d bytes from end so.texts is.ending is.sound is.reads
+  place = placed d bytes from end so.texts is.0
 
   abbrev with_span : List Span
   with_span = so.spans ++ place.span ∷ []
@@ -132,14 +74,14 @@ module _ (d : Marks) (sound : IsDialect d) (bytes : List ℕ) (from fields quote
 
   closed_more : count_by is_quoted_span with_span ≡ quoted + cond {A = ℕ} more 1 0
   closed_more =
-      let same : place.span.quoted ≡ more = ap (λ (f : Field). f.quoted) place.is.is ∙ is.quote in
+      let same : place.span.quoted ≡ more = ap (λ (f : Field). f.quoted) place.is.is ∙ is.1 in
       count_push so.spans place.span ∙ (λ i. so.closed i + cond {A = ℕ} (same i) 1 0)
 
   pub counted_more : get_or bytes end 0 ≡ d.delim → HasCounted d bytes (end + 1) (fields + 1) (quoted + cond {A = ℕ} more 1 0)
   counted_more delim = record {
     spans = with_span;
     texts = place.new;
-    read = has_read_more d bytes from field so.spans so.texts place.new place.span so.read is.reads place.is sound high delim;
+    read = has_read_more d bytes from field so.spans so.texts place.new place.span so.read is.0.reads place.is sound high delim;
     many = many_more;
     closed = closed_more;
   }
@@ -156,8 +98,8 @@ module _ (d : Marks) (sound : IsDialect d) (bytes : List ℕ) (from fields quote
 
     split_is : IsSplit d row split
     split_is =
-        subst (λ o. IsSplit d row (split_of with_span place.new (option_map (λ at. record { column = length so.spans; at = at }) o) end)) is.sound
-        (is_split d bytes from field so.spans so.texts place.new place.span so.read is.reads place.is last no_comment (length so.spans) refl)
+        subst (λ o. IsSplit d row (split_of with_span place.new (option_map (λ at. record { column = length so.spans; at = at }) o) end)) is.0.sound
+        (is_split d bytes from field so.spans so.texts place.new place.span so.read is.0.reads place.is last no_comment (length so.spans) refl)
 
     all_closed : closed_in split ≡ count_by is_quoted_span with_span
     all_closed = ap (count_by is_quoted_span) (take_all (length with_span) with_span (omega arith))
@@ -166,7 +108,7 @@ module _ (d : Marks) (sound : IsDialect d) (bytes : List ℕ) (from fields quote
     counted_last =
         let shape = shape-is d row split split_is in
         record {
-          len = is_row_len d bytes from field so.spans so.texts place.new place.span so.read is.reads place.is last no_comment;
+          len = is_row_len d bytes from field so.spans so.texts place.new place.span so.read is.0.reads place.is last no_comment;
           within = omega (arith, high);
           sound = sym (ap (λ s. s.sound) shape);
           fields = sym many_more ∙ ap (λ s. s.fields) shape;
