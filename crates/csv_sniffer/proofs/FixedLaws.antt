@@ -26,10 +26,6 @@ pub and_again : (a b : Bool) → (a && (a && b)) ≡ (a && b)
 and_again true b = refl
 and_again false b = refl
 
-and_none : (a : Bool) → (a && false) ≡ false
-and_none true = refl
-and_none false = refl
-
 is_some_type : (tys : List ColumnType) → 1 ≤ length tys → is_empty tys ≡ false
 is_some_type [] h = absurd (let no : ⊥ = omega (arith, h) in no)
 is_some_type (ty ∷ tys) h = refl

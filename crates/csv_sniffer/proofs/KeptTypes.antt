@@ -1,4 +1,5 @@
 -- Values that leave the possible types of a column as they are.
+use Rattle.std.proofs.Math.Bool.{or-true}
 use Rattle.std.proofs.Common.{◌≡◌, ℕ, Bool, true, false, not, ◌&&◌, ◌||◌, List, length, Option, Some, None, ℤ, pos, ◌+ℤ◌, ◌*ℤ◌, refl, sym, ◌∙◌, ap, inl, inr, arith}
 use Rattle.std.specs.Option.{is_some, option_map}
 use Rattle.std.proofs.lemmas.Bool.{and_parts}
@@ -37,12 +38,8 @@ date_is_stamp text h =
     let o : Option ℤ = date_of (trimmed text) in
     some_stamp (trimmed text) o refl h
 
-or_true : (b : Bool) → (b || true) ≡ true
-or_true true = refl
-or_true false = refl
-
 by_date : (stamp date of : Bool) → (date ≡ true → of ≡ true) → date ≡ ((not true || date) && (not stamp || of))
-by_date stamp true of law = sym (ap (λ t. not stamp || t) (law refl) ∙ or_true (not stamp))
+by_date stamp true of law = sym (ap (λ t. not stamp || t) (law refl) ∙ or-true (not stamp))
 by_date stamp false of law = refl
 
 -- where DATE is possible, it decides

@@ -1,20 +1,12 @@
 -- Physical lines that are counted from place to place.
-use Rattle.std.proofs.Common.{◌≡◌, ℕ, zero, suc, ◌+◌, ◌-◌, ◌≤◌, Bool, true, false, cond, List, [], ◌∷◌, ◌++◌, length, take, drop, Option, Some, None, refl, sym, ap, ◌∙◌, add_assoc, arith}
+use Rattle.std.proofs.Common.{◌≡◌, ℕ, zero, suc, ◌+◌, ◌-◌, ◌≤◌, List, [], ◌∷◌, ◌++◌, length, take, drop, Option, Some, None, refl, sym, ap, ◌∙◌, add_assoc, arith}
 use Rattle.std.specs.Prelude.{slice_range}
 use Rattle.std.specs.List.{last_or}
 use Rattle.std.specs.Option.{option_or}
 use Rattle.std.proofs.lemmas.List.{length-take}
-use Rattle.byte_classes.specs.LineEnds.{line_ends, ends_physical_line}
-use Rattle.byte_classes.proofs.LineEndLaws.{line_ends-append}
+use Rattle.byte_classes.specs.LineEnds.{line_ends}
+use Rattle.byte_classes.proofs.LineEndLaws.{line_ends-append, line_ends-le}
 use Rattle.csv_sniffer.specs.Entries.{line_at}
-
--- a byte ends one line at most
-pub line_ends-le : (before : Option ℕ) (bytes : List ℕ) → line_ends before bytes ≤ length bytes
-line_ends-le before [] = omega arith
-line_ends-le before (b ∷ bytes) = by_test (ends_physical_line before b) (line_ends-le (Some b) bytes) where
-  by_test : (t : Bool) → line_ends (Some b) bytes ≤ length bytes → cond t 1 0 + line_ends (Some b) bytes ≤ suc (length bytes)
-  by_test true h = omega (arith, h)
-  by_test false h = omega (arith, h)
 
 -- the last byte of a list, or else another one
 some_last : (o : Option ℕ) (x : ℕ) (xs : List ℕ) → option_or (last_or (Some x) xs) o ≡ last_or (Some x) xs

@@ -1,25 +1,22 @@
 -- A text of one digit to eighteen digits spells a number of 64 bits.
-use Rattle.std.proofs.Common.{◌≡◌, ℕ, suc, ◌-◌, ◌*◌, ◌^◌, ◌<◌, ◌≤◌, true, List, [], ◌∷◌, length, Some, None, pos, neg_ℤ, ◌∙◌, ap, arith}
+use Rattle.std.proofs.Common.{◌≡◌, ℕ, suc, ◌-◌, ◌*◌, ◌^◌, ◌<◌, ◌≤◌, true, List, [], ◌∷◌, length, Some, None, pos, ◌∙◌, ap, arith}
 use Rattle.std.specs.Prelude.{if◌then◌else◌, nat_le, option_and_then}
 use Rattle.std.specs.Option.{is_some, option_map}
 use Rattle.std.specs.List.{list_all}
 use Rattle.std.specs.Char.{is_ascii_digit}
-use Rattle.std.proofs.lemmas.Bool.{and_parts, leb-true, lt-ltb, ne_eqb}
+use Rattle.std.proofs.lemmas.Bool.{and_parts, leb-true, lt-ltb}
 use Rattle.std.proofs.Math.Nat.{mul-le-mul_left, pow-le-pow_right, pow-suc}
 use Rattle.value_types.specs.declared.types.ColumnType.TheVariants as types
 use Rattle.value_types.specs.declared.types.Value.TheVariants as values
-use Rattle.value_types.specs.Digits.{decimal_value, natural_of}
-use Rattle.value_types.specs.Cast.{trimmed, bigint, integer_of, bigint_of}
+use Rattle.value_types.specs.Digits.{decimal_value}
+use Rattle.value_types.specs.Cast.{trimmed, bigint, bigint_of}
 use Rattle.value_types.specs.OfType.{is_of_type}
-use Rattle.value_types.proofs.IntTexts.{trimmed-digits}
+use Rattle.value_types.proofs.IntTexts.{integer_of-digits, trimmed-digits}
 use Rattle.csv_sniffer.specs.KeptTypes.{is_plain_number}
 
 -- all bytes are digits
 abbrev AreDigits : List ℕ → Type 0
 AreDigits ds = list_all is_ascii_digit ds ≡ true
-
-digit_low : (b : ℕ) → is_ascii_digit b ≡ true → 48 ≤ b
-digit_low b h = leb-true 48 b (and_parts _ _ h).0
 
 digit_high : (b : ℕ) → is_ascii_digit b ≡ true → b ≤ 57
 digit_high b h = leb-true b 57 (and_parts _ _ h).1
@@ -37,16 +34,6 @@ decimal_below (d ∷ ds) h =
     let behind : decimal_value ds < power = decimal_below ds parts.1 in
     let next : 10 ^ suc (length ds) ≡ power * 10 = pow-suc 10 (length ds) in
     omega (arith, most, behind, next)
-
-integer_of-digits : (ds : List ℕ) → AreDigits ds → 0 < length ds → integer_of ds ≡ Some (pos (decimal_value ds))
-integer_of-digits [] h some = absurd (let no : ⊥ = omega (arith, some) in no)
-integer_of-digits (d ∷ ds) h some =
-    let least : 48 ≤ d = digit_low d (and_parts _ _ h).0 in
-    let plus = ne_eqb d 43 (omega arith) in
-    let minus = ne_eqb d 45 (omega arith) in
-    (λ i. if plus i then option_map pos (natural_of ds) else (if minus i then option_map (λ n. neg_ℤ (pos n)) (natural_of ds)
-    else option_map pos (natural_of (d ∷ ds))))
-    ∙ ap (λ t. option_map pos (if t then Some (decimal_value (d ∷ ds)) else None)) h
 
 bigint_of-digits : (ds : List ℕ) → AreDigits ds → 0 < length ds → length ds ≤ 18 → bigint_of (trimmed ds) ≡ Some (pos (decimal_value ds))
 bigint_of-digits ds h some few =

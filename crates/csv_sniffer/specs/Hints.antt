@@ -47,8 +47,8 @@ loses_zeros column =
 -- ---- texts that stand for null
 
 -- the texts that are tried
-abbrev pub null_texts : List (List ℕ)
-null_texts =
+abbrev pub tried_nulls : List (List ℕ)
+tried_nulls =
     codes "NA" ∷ codes "N/A" ∷ codes "NULL" ∷ codes "null" ∷ codes "-" ∷ codes "\\N" ∷ codes "None" ∷ codes "NaN" ∷ []
 
 -- whether a value would be null, were this text one that stands for null
@@ -84,7 +84,7 @@ abbrev pub null_hint : Options → List ColumnSample → List ℕ → List Hint
 null_hint o columns text = if list_any (is_freed o text) columns then hints.NullText text ∷ [] else []
 
 abbrev pub null_hints : Options → List ColumnSample → List Hint
-null_hints o columns = if may_name_nulls o then flat_map (null_hint o columns) null_texts else []
+null_hints o columns = if may_name_nulls o then flat_map (null_hint o columns) tried_nulls else []
 
 -- the delimiter that would cut more, the comment byte, and what would change the types of columns
 abbrev pub hints_of : Options → Sniffed → Marks → List (List ℕ) → List ColumnSample → List Hint

@@ -1,7 +1,6 @@
 //! A row that leaves the types that are possible for all columns as they are is found by one look at its bytes.
 ghost use Rattle.std.specs.Prelude.{◌≡◌, ◌≤◌, ◌<◌, ℕ, true, false, length, slice_index, slice_index_or, slice_range, IfSome};
 ghost use Rattle.std.specs.List.{list_all};
-ghost use Rattle.byte_classes.specs.Fault.{is_line_end_byte};
 ghost use Rattle.row_fields.specs.Fields.{fields};
 ghost use Rattle.row_fields.specs.Plain.{LeavesPlain};
 ghost use Rattle.row_fields.specs.Split.{row_from};
@@ -12,7 +11,7 @@ ghost use Rattle.csv_sniffer.specs.PossibleTypes.{column_value, narrowed_by};
 
 use crate::possible_types::PossibleTypes;
 use crate::sampled_rows::SampledRows;
-use byte_classes::Dialect;
+use byte_classes::{Dialect, is_line_end};
 use quote_automaton::begins_comment;
 use value_types::{ColumnType, is_plain};
 
@@ -54,13 +53,6 @@ fn unsettled(possible: &[PossibleTypes]) -> usize
         }
     }
     0
-}
-
-/// Whether a byte ends a line.
-fn is_line_end(byte: u8) -> bool
-    ensures { result ≡ is_line_end_byte byte }
-{
-    byte == b'\n' || byte == b'\r'
 }
 
 /// Whether the row that begins at a place leaves the types of all columns as they are, whether it agrees or not, as one look
