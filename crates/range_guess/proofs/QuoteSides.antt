@@ -1,5 +1,5 @@
 -- Which side of the quotes a byte leads to.
-use Rattle.std.proofs.Common.{◌≡◌, ℕ, ◌-◌, Bool, true, false, not, ◌||◌, cond, refl, sym, ◌∙◌, ap, ◌⊎◌, inl, inr}
+use Rattle.std.proofs.Common.{◌≡◌, ℕ, Bool, true, false, not, cond, refl, sym, ◌∙◌, ap}
 use Rattle.std.specs.Prelude.{Option, Some, None, ◌==◌}
 use Rattle.std.proofs.lemmas.Bool.{eqb-true}
 use Rattle.byte_classes.specs.declared.class.Class.{Class}
@@ -13,10 +13,6 @@ use Rattle.row_fields.proofs.FieldReading.{IsQuotedWell}
 use Rattle.row_fields.proofs.TextQuotes.{is_proper_state}
 
 -- ---- tests
-
-pub either : (a b : Bool) → (a || b) ≡ true → (a ≡ true) ⊎ (b ≡ true)
-either true b h = inl refl
-either false b h = inr h
 
 pub quote_is : (c : Class) → same_class c class.Quote ≡ true → c ≡ class.Quote
 quote_is class.Lf h = absurd (let no : ⊥ = cc in no)
