@@ -7,7 +7,8 @@ use Rattle.column_store.specs.declared.column.Column.{Column}
 use Rattle.column_store.specs.ColumnCells.{cells_of, type_of}
 use Rattle.column_store.specs.ColumnChanges.{EachColumn, IsAppended}
 use Rattle.column_store.specs.IsFilled.{IsFilled}
-use Rattle.column_store.specs.RowsOfColumns.{row_at, rows_of}
+use Rattle.value_types.specs.Views.{row_at}
+use Rattle.column_store.specs.RowsOfColumns.{rows_of}
 use Rattle.column_store.proofs.Rows.{joined_rows, maps_same}
 use Rattle.column_store.proofs.Filled.{cells_fit, length_begun}
 

@@ -14,7 +14,8 @@ use Rattle.column_store.specs.declared.column.Column.TheVariants as columns
 use Rattle.column_store.specs.ColumnCells.{cells_of, room_of, type_of}
 use Rattle.column_store.specs.ColumnChanges.{EachColumn, IsAppended, IsCut, KeepsCells, KeepsFront}
 use Rattle.column_store.specs.IsFilled.{IsFilled}
-use Rattle.column_store.specs.RowsOfColumns.{row_at, rows_of, FitsColumn}
+use Rattle.value_types.specs.Views.{row_at}
+use Rattle.column_store.specs.RowsOfColumns.{rows_of, FitsColumn}
 use Rattle.column_store.proofs.Options.{length-options}
 use Rattle.column_store.proofs.Rows.{joined_rows, rows_same, maps_same, rows_of-fewer}
 

@@ -8,7 +8,8 @@ use Rattle.value_types.proofs.OnLast.{on_last-push, on_last-take, length-on_last
 use Rattle.column_store.specs.declared.column.Column.{Column}
 use Rattle.column_store.specs.ColumnCells.{cells_of, room_of, type_of}
 use Rattle.column_store.specs.IsFilled.{IsFilled}
-use Rattle.column_store.specs.RowsOfColumns.{row_at, rows_of}
+use Rattle.value_types.specs.Views.{row_at}
+use Rattle.column_store.specs.RowsOfColumns.{rows_of}
 use Rattle.column_store.proofs.Rows.{rows_same, maps_same}
 
 module _ (xs : List Column) (rows begun spare : ℕ) (filled : IsFilled xs rows begun spare) (place : ℕ) (last : begun ≡ place + 1) (was column : Column) (is : was ≡ get_or xs place was)

@@ -9,12 +9,6 @@ use Rattle.value_types.specs.declared.types.ColumnType.{ColumnType}
 use Rattle.value_types.specs.Datum.{Datum, null}
 use Rattle.column_store.specs.RowsOfColumns.{FitsColumn}
 
-pub fit_lengths : (tys : List ColumnType) (cells : List Datum) → fit_all tys cells ≡ true → length cells ≡ length tys
-fit_lengths [] [] h = refl
-fit_lengths [] (cell ∷ cells) h = absurd (false≢true h)
-fit_lengths (ty ∷ tys) [] h = absurd (false≢true h)
-fit_lengths (ty ∷ tys) (cell ∷ cells) h = ap suc (fit_lengths tys cells (and_parts (fits ty cell) (fit_all tys cells) h).1)
-
 fits_each : (tys : List ColumnType) (cells : List Datum) (number : ℕ) (cell : Datum) → fit_all tys cells ≡ true → slice_get cells number ≡ Some cell → FitsColumn tys number cell
 fits_each [] [] number cell h is = absurd (none-some cell is)
 fits_each [] (c ∷ cells) number cell h is = absurd (false≢true h)

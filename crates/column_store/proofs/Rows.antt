@@ -10,7 +10,8 @@ use Rattle.std.proofs.lemmas.Option.{slice_get-get_or, get_or_from_slice_get}
 use Rattle.value_types.specs.Datum.{Datum, null}
 use Rattle.column_store.specs.declared.column.Column.{Column}
 use Rattle.column_store.specs.ColumnCells.{cells_of}
-use Rattle.column_store.specs.RowsOfColumns.{row_at, rows_of}
+use Rattle.value_types.specs.Views.{row_at}
+use Rattle.column_store.specs.RowsOfColumns.{rows_of}
 use Rattle.column_store.specs.TableView.{cell_of}
 
 pub length-rows_of : (columns : List (List Datum)) (count : ℕ) → length (rows_of columns count) ≡ count

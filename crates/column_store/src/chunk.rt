@@ -36,7 +36,8 @@ impl Model for Chunk {
 
     ghost use Rattle.column_store.specs.ColumnCells.{cells_of, type_of};
     ghost use Rattle.column_store.specs.IsFilled.{IsFilled};
-    ghost use Rattle.column_store.specs.RowsOfColumns.{row_at, rows_of};
+    ghost use Rattle.value_types.specs.Views.{row_at};
+    ghost use Rattle.column_store.specs.RowsOfColumns.{rows_of};
 
     ghost view = { λ c. record {
       types = map type_of c.columns.items;

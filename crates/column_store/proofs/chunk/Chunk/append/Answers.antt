@@ -5,7 +5,8 @@ use Rattle.std.proofs.lemmas.List.{length-map, with_items_is}
 use Rattle.column_store.specs.ColumnCells.{cells_of, type_of}
 use Rattle.column_store.specs.ColumnChanges.{EachColumn, IsAppended, KeepsCells}
 use Rattle.column_store.specs.IsFilled.{IsFilled}
-use Rattle.column_store.specs.RowsOfColumns.{row_at, rows_of}
+use Rattle.value_types.specs.Views.{row_at}
+use Rattle.column_store.specs.RowsOfColumns.{rows_of}
 use Rattle.column_store.proofs.Rows.{length-rows_of}
 use Rattle.column_store.proofs.AppendedRows.{all_full, filled_total, none_begun, rows_appended, types_appended}
 use Rattle.column_store.proofs.Filled.{on_err, same_cells, same_types, same_view}

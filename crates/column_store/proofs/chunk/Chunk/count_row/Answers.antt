@@ -1,7 +1,8 @@
 use Rattle.std.proofs.Common.{◌≡◌, ◌∙◌, ◌++◌, ◌∷◌, [], sym, refl, ap, arith, ◌-◌, length, map}
 use Rattle.std.proofs.lemmas.List.{length-map, take_all}
 use Rattle.column_store.specs.ColumnCells.{cells_of, type_of}
-use Rattle.column_store.specs.RowsOfColumns.{row_at, rows_of}
+use Rattle.value_types.specs.Views.{row_at}
+use Rattle.column_store.specs.RowsOfColumns.{rows_of}
 use Rattle.column_store.proofs.Rows.{length-rows_of, rows_of-more}
 use Rattle.column_store.proofs.Filled.{filled_finish, length_begun, same_view}
 use Rattle.column_store.proofs.chunk.Chunk.count_row.Goals as goal

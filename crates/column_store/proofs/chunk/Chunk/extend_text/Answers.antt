@@ -4,7 +4,7 @@ use Rattle.value_types.proofs.OnLast.{on_last-same}
 use Rattle.column_store.specs.declared.column.Column.{Column}
 use Rattle.column_store.specs.ColumnCells.{cells_of}
 use Rattle.column_store.specs.LongerText.{longer}
-use Rattle.column_store.specs.RowsOfColumns.{row_at}
+use Rattle.value_types.specs.Views.{row_at}
 use Rattle.column_store.proofs.Filled.{length_begun, on_err, same_view}
 use Rattle.column_store.proofs.LastCells.{last_filled, last_row, last_rows, last_types}
 use Rattle.column_store.proofs.chunk.Chunk.extend_text.Goals as goal

@@ -2,7 +2,8 @@ use Rattle.std.proofs.Common.{◌∙◌, ap, arith, map, subst, take}
 use Rattle.std.proofs.lemmas.List.{with_items_is}
 use Rattle.column_store.specs.ColumnCells.{cells_of, type_of}
 use Rattle.column_store.specs.ColumnChanges.{EachColumn, KeepsCells}
-use Rattle.column_store.specs.RowsOfColumns.{row_at, rows_of}
+use Rattle.value_types.specs.Views.{row_at}
+use Rattle.column_store.specs.RowsOfColumns.{rows_of}
 use Rattle.column_store.proofs.Filled.{same_cells, same_types, same_view}
 use Rattle.column_store.proofs.chunk.Chunk.measure.Goals as goal
 

@@ -6,7 +6,7 @@ use Rattle.value_types.specs.declared.types.ColumnType.TheVariants.{Bigint}
 use Rattle.value_types.specs.declared.types.Value.TheVariants.{Int}
 use Rattle.value_types.specs.Datum.{Datum, typed}
 use Rattle.column_store.specs.ColumnCells.{cells_of, type_of}
-use Rattle.column_store.specs.RowsOfColumns.{row_at}
+use Rattle.value_types.specs.Views.{row_at}
 use Rattle.column_store.proofs.Filled.{column_inside, filled_push, grown, kept_rows, kept_types, on_err, row_push, row_still, same_view, set_front, unchanged}
 use Rattle.column_store.proofs.chunk.Chunk.push_bigint.Goals as goal
 

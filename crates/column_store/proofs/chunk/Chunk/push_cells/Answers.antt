@@ -2,7 +2,8 @@ use Rattle.std.proofs.Common.{◌∙◌, ◌++◌, ◌∷◌, [], sym, ap, arith
 use Rattle.std.proofs.lemmas.List.{take_all}
 use Rattle.value_types.specs.Datum.{datum_of}
 use Rattle.column_store.proofs.Filled.{same_view}
-use Rattle.column_store.proofs.NextCells.{fit_lengths, fits_next, take_next}
+use Rattle.value_types.proofs.RowFits.{fit_lengths}
+use Rattle.column_store.proofs.NextCells.{fits_next, take_next}
 use Rattle.column_store.proofs.chunk.Chunk.push_cells.Goals as goal
 
 pub push_cell-requires : goal.push_cell-requires

@@ -2,10 +2,12 @@ use Rattle.std.proofs.Common.{◌≡◌, ◌∙◌, ◌-◌, ◌++◌, ◌∷◌
 use Rattle.std.proofs.lemmas.List.{length-map, take_all}
 use Rattle.value_types.specs.Datum.{datum_of}
 use Rattle.column_store.specs.ColumnCells.{cells_of, type_of}
-use Rattle.column_store.specs.RowsOfColumns.{row_at, rows_of}
+use Rattle.value_types.specs.Views.{row_at}
+use Rattle.column_store.specs.RowsOfColumns.{rows_of}
 use Rattle.column_store.proofs.Rows.{rows_of-more}
 use Rattle.column_store.proofs.Filled.{filled_finish, length_begun, same_view}
-use Rattle.column_store.proofs.NextCells.{fit_lengths, fits_next, take_next}
+use Rattle.value_types.proofs.RowFits.{fit_lengths}
+use Rattle.column_store.proofs.NextCells.{fits_next, take_next}
 use Rattle.column_store.proofs.chunk.Chunk.push_reserved.Goals as goal
 
 pub push_cell_reserved-requires-clause-fits : goal.push_cell_reserved-requires-clause-fits

@@ -4,7 +4,7 @@ use Rattle.std.specs.Option.{option_to_list}
 use Rattle.value_types.specs.OfType.{typed_cell}
 use Rattle.column_store.specs.ColumnCells.{cells_of, type_of}
 use Rattle.column_store.specs.NextCell.{spelled_cell}
-use Rattle.column_store.specs.RowsOfColumns.{row_at}
+use Rattle.value_types.specs.Views.{row_at}
 use Rattle.column_store.proofs.Filled.{column_inside, grown, kept_rows, kept_types, none_more, on_err, one_more, row_push, row_still, same_view, set_front, spelled_as, unchanged}
 use Rattle.column_store.proofs.chunk.Chunk.push_spelled.Goals as goal
 

@@ -4,7 +4,7 @@ use Rattle.std.proofs.lemmas.Option.{slice_get_within}
 use Rattle.value_types.specs.declared.types.ColumnType.TheVariants.{Varchar}
 use Rattle.value_types.specs.Datum.{Datum, text}
 use Rattle.column_store.specs.ColumnCells.{cells_of, type_of}
-use Rattle.column_store.specs.RowsOfColumns.{row_at}
+use Rattle.value_types.specs.Views.{row_at}
 use Rattle.column_store.proofs.Filled.{column_inside, filled_push, grown, kept_rows, kept_types, on_err, row_push, row_still, same_view, set_front, unchanged}
 use Rattle.column_store.proofs.chunk.Chunk.push_text.Goals as goal
 
