@@ -1,6 +1,7 @@
 -- A row whose fields are found one behind another.
 use Rattle.std.proofs.Common.{◌≡◌, ℕ, ◌+◌, ◌-◌, ◌<◌, ◌≤◌, true, false, List, [], ◌∷◌, ◌++◌, map, take, drop, length, get_or, refl, sym, ◌∙◌, ap, subst, inl, inr, ◌⊎◌, arith, length-append, append-nil}
 use Rattle.std.specs.Prelude.{◌≢◌, Some, None, option_map, slice_get, slice_range}
+use Rattle.std.proofs.lemmas.Bool.{cases_lt}
 use Rattle.std.proofs.lemmas.List.{drop_more, map_push, length-map, take_at, append_assoc}
 use Rattle.std.proofs.lemmas.List.Folds.{drop_split}
 use Rattle.std.proofs.lemmas.Option.{get_or_from_slice_get, none-some, same_Some, slice_get_within}
@@ -9,17 +10,14 @@ use Rattle.byte_classes.specs.Fault.{is_line_end_byte}
 use Rattle.quote_automaton.specs.declared.state.State.TheVariants.{RowStart, FieldStart}
 use Rattle.quote_automaton.specs.Automaton.{state_after}
 use Rattle.quote_automaton.specs.Rows.{begins_comment, row_at, row_end}
-use Rattle.row_fields.specs.declared.field.Ending.{Ending}
-use Rattle.row_fields.specs.declared.field.Ending.TheVariants as ending
 use Rattle.row_fields.specs.declared.field.FieldEnd.{FieldEnd}
 use Rattle.row_fields.specs.declared.span.Span.{Span}
-use Rattle.row_fields.specs.declared.span.Store.TheVariants.{Row}
-use Rattle.row_fields.specs.Fields.{Field, unescaped, raw_fields, fields_from, fields, flaw}
-use Rattle.row_fields.specs.Reading.{ReadsField, PlacesField, HasRead, field_of, flaw_place, rest_at}
+use Rattle.row_fields.specs.Fields.{Field, raw_fields, fields_from, fields, flaw}
+use Rattle.row_fields.specs.Reading.{HasRead, field_of, rest_at}
 use Rattle.row_fields.specs.Split.{field_in, row_from}
-use Rattle.row_fields.proofs.Places.{places_plain, places_unescaped}
+use Rattle.row_fields.proofs.Places.{Placed, placed}
 use Rattle.row_fields.proofs.FrontReading.{IsLast, has_read_more, has_read_none, is_row_len, is_split}
-use Rattle.row_fields.proofs.PlainReading.{bare_field_of, line_end_is_no_delim, no_delim_class}
+use Rattle.row_fields.proofs.PlainReading.{line_end_is_no_delim, no_delim_class}
 use Rattle.row_fields.proofs.RowSteps.{row_at-start, begins-row_at, raw_fields-start, row_at-ended, raw_fields-last, other_ends_row}
 use Rattle.value_types.specs.declared.types.ColumnType.{ColumnType}
 use Rattle.value_types.specs.declared.types.ColumnType.TheVariants.{Varchar}
@@ -66,28 +64,6 @@ has_no_field context bytes = record {
   ascii = λ none k lt. absurd (let n : ⊥ = omega (arith, lt) in n);
 }
 
--- where a field that ends well stands, behind any texts
-record Placed (d : Marks) (bytes : List ℕ) (from end : ℕ) (texts : List ℕ) : Type 0 where
-  new : List ℕ
-  span : Span
-  is : PlacesField d bytes from end texts new span
-
-placed : (d : Marks) (bytes : List ℕ) (from end : ℕ) (texts : List ℕ) (e : Ending) → flaw_place from e ≡ None → ReadsField d bytes from (record { at = end; ending = e }) → Placed d bytes from end texts
-placed d bytes from end texts ending.Bare sound reads = record {
-  new = texts;
-  span = record { at = from; from = from; end = end; store = Row; quoted = false };
-  is = record { is = sym (bare_field_of d from (slice_range bytes from end) reads.ends.0); within = (reads.low, omega arith); grown = ([], sym (append-nil texts)) };
-}
-placed d bytes from end texts (ending.Closed false) sound reads = record { new = texts; span = _; is = places_plain d bytes from (record { at = end; ending = ending.Closed false }) texts reads refl }
-placed d bytes from end texts (ending.Closed true) sound reads =
-    let new : List ℕ = texts ++ unescaped d (slice_range bytes (from + 1) (end - 1)) in
-    record { new = new; span = _; is = places_unescaped d bytes from (record { at = end; ending = ending.Closed true }) texts new (length texts) (length new) reads refl refl refl refl }
-placed d bytes from end texts ending.Open sound reads = absurd (none-some from (sym sound))
-placed d bytes from end texts (ending.Broken at) sound reads = absurd (none-some at (sym sound))
-
-lt_or_le : (a b : ℕ) → (a < b) ⊎ (b ≤ a)
-lt_or_le a b = grind arith
-
 -- a column of a type, where none holds texts
 no_text : (tys : List ColumnType) (k : ℕ) (ty : ColumnType) → slice_get tys k ≡ Some ty → HasNoTexts tys → ty ≢ Varchar
 no_text tys k ty is none = subst (λ t. t ≢ Varchar) (get_or_from_slice_get tys k ty ty is) (none k ty (slice_get_within tys k ty is))
@@ -99,7 +75,7 @@ module _ (context : Context) (sound : IsDialect context.dialect) (bytes : List �
   d = context.dialect
 
   abbrev field : FieldEnd
-  field = record { at = end; ending = is.ending }
+  field = record { at = end; ending = is.well.ending }
 
   abbrev raw : List ℕ
   raw = slice_range bytes from end
@@ -111,13 +87,13 @@ module _ (context : Context) (sound : IsDialect context.dialect) (bytes : List �
   with_cell = cells ++ cell ∷ []
 
   place : Placed d bytes from end so.texts
-  place = placed d bytes from end so.texts is.ending is.sound is.reads
+  place = placed d bytes from end so.texts is.well
 
   before_long : length before ≡ length cells
   before_long = length-map so.spans (field_in bytes so.texts) ∙ so.count
 
   ascii_more : HasNoTexts context.schema.types → (k : ℕ) → k < end → get_or bytes k 0 < 128
-  ascii_more none k lt = by_place (lt_or_le k from) where
+  ascii_more none k lt = by_place (cases_lt k from) where
     by_place : (k < from) ⊎ (from ≤ k) → get_or bytes k 0 < 128
     by_place (inl before) = so.ascii none k before
     by_place (inr behind) = plain (no_text context.schema.types (length cells) ty next none) k behind lt
@@ -133,7 +109,7 @@ module _ (context : Context) (sound : IsDialect context.dialect) (bytes : List �
   -- a delimiter follows
   module _ (delim : get_or bytes end 0 ≡ d.delim) where
     read_more : HasRead d bytes (end + 1) (so.spans ++ place.span ∷ []) place.new
-    read_more = has_read_more d bytes from field so.spans so.texts place.new place.span so.read is.reads place.is sound high delim
+    read_more = has_read_more d bytes from field so.spans so.texts place.new place.span so.read is.well.reads place.is sound high delim
 
     -- the fields before are what they were: both are the first ones of the row
     same_before : map (field_in bytes place.new) so.spans ≡ before
@@ -149,7 +125,7 @@ module _ (context : Context) (sound : IsDialect context.dialect) (bytes : List �
     fields_with = map_push (field_in bytes place.new) so.spans place.span ∙ (λ i. same_before i ++ place.is.is i ∷ [])
 
     ascii_delim : HasNoTexts context.schema.types → (k : ℕ) → k < end + 1 → get_or bytes k 0 < 128
-    ascii_delim none k lt = by_place (lt_or_le k end) where
+    ascii_delim none k lt = by_place (cases_lt k end) where
       by_place : (k < end) ⊎ (end ≤ k) → get_or bytes k 0 < 128
       by_place (inl before) = ascii_more none k before
       by_place (inr behind) =
@@ -175,9 +151,9 @@ module _ (context : Context) (sound : IsDialect context.dialect) (bytes : List �
     rest_is : IsLast d bytes end → rest_at d bytes from ≡ raw
     rest_is (inl past) = absurd (let n : ⊥ = omega (arith, past, high) in n)
     rest_is (inr other) =
-        ap (λ v. row_at d FieldStart v 0) (drop_split bytes from end is.reads.low ∙ ap (λ v. raw ++ v) (drop_more bytes end 0 other.0))
-        ∙ row_at-ended d raw (get_or bytes end 0) (drop (end + 1) bytes) is.reads.inside
-        (other_ends_row d (state_after d FieldStart raw) (get_or bytes end 0) (no_delim_class d (get_or bytes end 0) other.1) (is.reads.stops other.0))
+        ap (λ v. row_at d FieldStart v 0) (drop_split bytes from end is.well.reads.low ∙ ap (λ v. raw ++ v) (drop_more bytes end 0 other.0))
+        ∙ row_at-ended d raw (get_or bytes end 0) (drop (end + 1) bytes) is.well.reads.inside
+        (other_ends_row d (state_after d FieldStart raw) (get_or bytes end 0) (no_delim_class d (get_or bytes end 0) other.1) (is.well.reads.stops other.0))
 
     row_is : row_from d bytes 0 ≡ rest_at d bytes 0
     row_is = let none : 0 + row_end d RowStart bytes 0 ≡ row_end d RowStart bytes 0 = omega arith in ap (slice_range bytes 0) none ∙ row_at-start d bytes no_comment
@@ -186,16 +162,16 @@ module _ (context : Context) (sound : IsDialect context.dialect) (bytes : List �
     fields_are =
         ap (fields d) row_is
         ∙ ap (fields_from d 0) (raw_fields-start d (rest_at d bytes 0) (begins-row_at d bytes no_comment)) ∙ sym so.read.fields
-        ∙ ap (λ v. before ++ fields_from d from v) (ap (raw_fields d FieldStart) (rest_is last) ∙ raw_fields-last d raw is.reads.inside)
+        ∙ ap (λ v. before ++ fields_from d from v) (ap (raw_fields d FieldStart) (rest_is last) ∙ raw_fields-last d raw is.well.reads.inside)
 
     no_flaw : flaw d (row_from d bytes 0) ≡ None
     no_flaw =
-        sym (is_split d bytes from field so.spans so.texts place.new place.span so.read is.reads place.is last no_comment (length so.spans) refl).flaw
-        ∙ ap (option_map (λ at. record { column = length so.spans; at = at })) is.sound
+        sym (is_split d bytes from field so.spans so.texts place.new place.span so.read is.well.reads place.is last no_comment (length so.spans) refl).flaw
+        ∙ ap (option_map (λ at. record { column = length so.spans; at = at })) is.well.sound
 
     pub last_one : IsFastRow context bytes with_cell end
     last_one = record {
-      is_len = is_row_len d bytes from field so.spans so.texts place.new place.span so.read is.reads place.is last no_comment;
+      is_len = is_row_len d bytes from field so.spans so.texts place.new place.span so.read is.well.reads place.is last no_comment;
       within = omega (arith, high);
       ascii = ascii_more;
       flawless = no_flaw;

@@ -2,6 +2,7 @@
 use Rattle.std.proofs.Common.{◌≡◌, ℕ, ◌+◌, ◌-◌, ◌<◌, ◌≤◌, List, [], ◌∷◌, map, take, drop, length, get_or, nat_lt, refl, sym, ◌∙◌, ap, subst, inl, inr, ◌⊎◌, false, true, arith, length-drop}
 use Rattle.std.specs.Prelude.{Some, None, IsUtf8, unwrap_or, slice_range}
 use Rattle.std.specs.Str.{is_utf8}
+use Rattle.std.proofs.lemmas.Bool.{cases_lt}
 use Rattle.std.proofs.lemmas.Bool.{le-ltb}
 use Rattle.std.proofs.lemmas.List.{get_or-drop, get_or_past}
 use Rattle.std.proofs.lemmas.List.Edits.{get_or-between, length-between}
@@ -27,9 +28,6 @@ use Rattle.range_scan.specs.Steps.{IsTextUpTo}
 use Rattle.range_scan.proofs.NextRows.{end_is_small}
 use Rattle.range_scan.proofs.PushedRows.{values_pushed}
 use Rattle.range_scan.proofs.Texts.{row_is_text}
-
-lt_or_le : (a b : ℕ) → (a < b) ⊎ (b ≤ a)
-lt_or_le a b = grind arith
 
 -- ---- the cells of all columns
 
@@ -93,7 +91,7 @@ module _ (context : Context) (bytes : List ℕ) (at len : ℕ) (within : at ≤ 
 
   -- it is ASCII where no column holds texts
   pub ascii_text : HasNoTexts context.schema.types → IsUtf8 text
-  ascii_text none = IsUtf8-from_ascii text (λ k. by_place k (lt_or_le k len)) where
+  ascii_text none = IsUtf8-from_ascii text (λ k. by_place k (cases_lt k len)) where
     by_place : (k : ℕ) → (k < len) ⊎ (len ≤ k) → get_or text k 0 < 128
     by_place k (inr behind) = subst (λ b. b < 128) (sym (get_or_past text k 0 (omega (arith, behind, row_long)))) (omega arith)
     by_place k (inl before) =

@@ -1,17 +1,17 @@
 -- The field of a plain value, and an empty one.
-use Rattle.std.proofs.Common.{◌≡◌, ℕ, zero, suc, take, drop, ◌+◌, ◌-◌, ◌<◌, ◌≤◌, Bool, true, false, ◌&&◌, cond, List, [], ◌∷◌, length, get_or, refl, sym, ◌∙◌, ap, subst, arith}
+use Rattle.std.proofs.Common.{◌≡◌, ℕ, zero, suc, ◌+◌, ◌-◌, ◌<◌, ◌≤◌, Bool, true, false, ◌&&◌, cond, List, [], ◌∷◌, length, get_or, refl, sym, ◌∙◌, ap, subst, arith}
 use Rattle.std.specs.Prelude.{Option, Some, None, slice_get, slice_range}
 use Rattle.std.specs.List.{list_all, list_any}
 use Rattle.std.specs.Option.{is_some}
 use Rattle.std.specs.Str.{bytes_eq}
-use Rattle.std.proofs.lemmas.Bool.{and_parts, and_from, or_from, or_left, or_right, true≢false}
+use Rattle.std.proofs.lemmas.Bool.{and_parts, and_from, or_from, or_left, or_parts, or_right, true≢false}
 use Rattle.std.proofs.lemmas.List.Edits.{get_or-between, length-between}
 use Rattle.std.proofs.lemmas.Option.{none-some, same_Some}
 use Rattle.byte_classes.specs.Class.{class_of}
 use Rattle.byte_classes.specs.Special.{is_special}
 use Rattle.row_fields.specs.declared.field.Ending.TheVariants as ending
 use Rattle.row_fields.specs.Fields.{is_quoted}
-use Rattle.row_fields.proofs.Roles.{or_parts}
+use Rattle.row_fields.proofs.Unescaping.{no_bytes}
 use Rattle.row_fields.proofs.PlainReading.{all_at, bare_field_of, differs, reads_ordinary, reads_plain}
 use Rattle.value_types.specs.declared.types.ColumnType.{ColumnType}
 use Rattle.value_types.specs.declared.types.ColumnType.TheVariants as types
@@ -87,9 +87,7 @@ module _ (ty : ColumnType) (bytes : List ℕ) (from end : ℕ) (at : IsPlainAt t
       let high : end ≤ length bytes = omega (arith, at.high) in
       let reads = reads_plain p context.dialect holds.leaves bytes from end low at.high all stops in
       record {
-        ending = ending.Bare;
-        sound = refl;
-        reads = reads.1;
+        well = record { ending = ending.Bare; sound = refl; reads = reads.1 };
         casts = ap (λ f. cell_at context.schema ty (Some f)) (bare_field_of context.dialect from raw reads.0)
             ∙ plain_cell context.schema p ty from raw holds.null (omega (arith, at.low, length-between bytes from end high)) all ∙ value;
       }
@@ -100,14 +98,11 @@ pub empty_field : (context : Context) (ty : ColumnType) (bytes : List ℕ) (from
     is_special false (class_of context.dialect (get_or bytes from 0)) ≡ true → IsField context ty bytes from from null
 empty_field context ty bytes from high is stops =
     let raw : List ℕ = slice_range bytes from from in
-    let no_bytes : raw ≡ [] = slice_none bytes from in
-    let bare : is_quoted context.dialect raw ≡ false = ap (is_quoted context.dialect) no_bytes in
+    let none : raw ≡ [] = no_bytes bytes from in
+    let bare : is_quoted context.dialect raw ≡ false = ap (is_quoted context.dialect) none in
+    let reads = reads_ordinary context.dialect bytes from from (omega arith) high bare (λ k lt. absurd (let n : ⊥ = omega (arith, lt, ap length none) in n)) stops in
     record {
-      ending = ending.Bare;
-      sound = refl;
-      reads = reads_ordinary context.dialect bytes from from (omega arith) high bare (λ k lt. absurd (let n : ⊥ = omega (arith, lt, ap length no_bytes) in n)) stops;
+      well = record { ending = ending.Bare; sound = refl; reads = reads };
       casts = ap (λ f. cell_at context.schema ty (Some f)) (bare_field_of context.dialect from raw bare)
-          ∙ ap (λ t. cond t (Some null) (typed_cell raw ty)) (ap (is_null (null_texts context.schema) context.schema.allow_quoted_nulls false) no_bytes ∙ is);
-    } where
-      slice_none : (xs : List ℕ) (k : ℕ) → slice_range xs k k ≡ []
-      slice_none xs k = ap (λ n. take n (drop k xs)) (let same : k - k ≡ 0 = omega arith in same)
+          ∙ ap (λ t. cond t (Some null) (typed_cell raw ty)) (ap (is_null (null_texts context.schema) context.schema.allow_quoted_nulls false) none ∙ is);
+    }

@@ -1,27 +1,24 @@
 -- The field of a text, without quotes and between doubled ones.
-use Rattle.std.proofs.Common.{◌≡◌, ℕ, ◌+◌, ◌-◌, ◌<◌, ◌≤◌, Bool, true, false, ◌&&◌, cond, List, [], ◌∷◌, ◌++◌, length, get_or, take, drop, refl, sym, ◌∙◌, ap, subst, inl, inr, ◌⊎◌, arith, append-nil, append_assoc}
+use Rattle.std.proofs.Common.{◌≡◌, ℕ, ◌+◌, ◌-◌, ◌<◌, Bool, true, false, ◌&&◌, cond, List, [], ◌∷◌, ◌++◌, length, get_or, refl, sym, ◌∙◌, ap, subst, inl, inr, ◌⊎◌, arith, append-nil}
 use Rattle.std.specs.Prelude.{◌==◌, ◌||◌, IfSome, Option, Some, slice_range}
 use Rattle.std.specs.List.{list_any}
 use Rattle.std.specs.Str.{bytes_eq}
-use Rattle.std.proofs.lemmas.Bool.{ne_eqb, or_from, true≢false}
+use Rattle.std.proofs.Math.Bool.{and-false}
+use Rattle.std.proofs.lemmas.Bool.{ne_eqb, or_from, or_parts, true≢false}
 use Rattle.std.proofs.lemmas.List.{take_all}
-use Rattle.byte_classes.specs.declared.class.Class.TheVariants as class
 use Rattle.byte_classes.specs.Class.{class_of}
 use Rattle.byte_classes.specs.Dialect.{IsDialect, Marks, is_byte}
-use Rattle.byte_classes.specs.Places.{first_place}
 use Rattle.byte_classes.specs.Special.{is_special, next_special}
-use Rattle.byte_classes.proofs.PlaceLaws.{first_place-within}
 use Rattle.quote_automaton.specs.Automaton.{IsDoubling}
 use Rattle.row_fields.specs.declared.field.Ending.TheVariants as ending
 use Rattle.row_fields.specs.declared.field.FieldEnd.{FieldEnd}
 use Rattle.row_fields.specs.Fields.{unescaped}
-use Rattle.row_fields.specs.Reading.{ReadsField}
 use Rattle.row_fields.proofs.BareReading.{reads_bare}
-use Rattle.row_fields.proofs.Doubling.{closing_role, doubled_role, found_quote, is_quote}
+use Rattle.row_fields.proofs.DoubledReading.{IsNextQuote, closed, either_way, next_stands, opened, pair_at, paired}
 use Rattle.row_fields.proofs.Places.{places_plain, places_unescaped}
-use Rattle.row_fields.proofs.Roles.{or_parts}
-use Rattle.row_fields.proofs.QuotedReading.{ReadInside, closes, goes_on, opens, run_stands, slice_first}
-use Rattle.row_fields.proofs.Unescaping.{CopiedUpTo, copied_all, copied_none, copied_pair}
+use Rattle.row_fields.proofs.PlainReading.{bare_field_of}
+use Rattle.row_fields.proofs.QuotedReading.{ReadInside, slice_first}
+use Rattle.row_fields.proofs.Unescaping.{CopiedUpTo, copied_all, copied_none, copied_pair, copied_run, no_bytes}
 use Rattle.value_types.specs.declared.types.ColumnType.TheVariants.{Varchar}
 use Rattle.value_types.specs.Datum.{null, text}
 use Rattle.value_types.specs.Null.{is_null}
@@ -29,7 +26,6 @@ use Rattle.reject_book.specs.declared.reject.Schema.{Schema}
 use Rattle.reject_book.specs.Casting.{cell_at, cell_of, null_texts}
 use Rattle.range_scan.specs.declared.context.Context.{Context}
 use Rattle.range_scan.specs.FastRows.{HoldsFields, IsField, has_byte, text_cell}
-use Rattle.row_fields.proofs.PlainReading.{bare_field_of}
 
 text_casts : (schema : Schema) (quoted : Bool) (value : List ℕ) → cell_of schema Varchar quoted value ≡ Some (text_cell schema quoted value)
 text_casts schema quoted value = by_test (is_null (null_texts schema) schema.allow_quoted_nulls quoted value) where
@@ -45,9 +41,7 @@ bare_text context bytes from end within bare is =
     let raw : List ℕ = slice_range bytes from end in
     let reads = reads_bare context.dialect bytes from end (omega (arith, within)) (λ _. bare) is in
     record {
-      ending = ending.Bare;
-      sound = refl;
-      reads = reads;
+      well = record { ending = ending.Bare; sound = refl; reads = reads };
       casts = ap (λ f. cell_at context.schema Varchar (Some f)) (bare_field_of context.dialect from raw reads.ends.0) ∙ text_casts context.schema false raw;
     }
 
@@ -59,10 +53,6 @@ pub record Contains (q : ℕ) (value : List ℕ) : Type 0 where
   pub behind : List ℕ
   pub is : value ≡ before ++ q ∷ behind
 
-and_false : (t : Bool) → (t && false) ≡ false
-and_false true = refl
-and_false false = refl
-
 differs : (q m : ℕ) → (m == q) ≡ false → (q == m) ≡ false
 differs q m other = ne_eqb q m (λ e. let wrong : true ≡ false = sym (eq_self m) ∙ ap (λ b. m == b) (sym e) ∙ other in true≢false wrong) where
   eq_self : (n : ℕ) → (n == n) ≡ true
@@ -73,7 +63,7 @@ other_text q [] ys [] none = refl
 other_text q [] ys (m ∷ nullstr) none = ap (λ t. t && bytes_eq ys nullstr) (differs q m (or_parts (m == q) (list_any (λ b. b == q) nullstr) none).0)
 other_text q (x ∷ xs) ys [] none = refl
 other_text q (x ∷ xs) ys (m ∷ nullstr) none =
-    ap (λ t. (x == m) && t) (other_text q xs ys nullstr (or_parts (m == q) (list_any (λ b. b == q) nullstr) none).1) ∙ and_false (x == m)
+    ap (λ t. (x == m) && t) (other_text q xs ys nullstr (or_parts (m == q) (list_any (λ b. b == q) nullstr) none).1) ∙ and-false (x == m)
 
 other_texts : (q : ℕ) (value : List ℕ) (texts : List (List ℕ)) → list_any (has_byte q) texts ≡ false → Contains q value → list_any (bytes_eq value) texts ≡ false
 other_texts q value [] none has = refl
@@ -104,40 +94,17 @@ module _ (context : Context) (bytes : List ℕ) (from : ℕ) (sound : IsDialect 
   abbrev q : ℕ
   q = get_or bytes from 0
 
-  abbrev pub IsNextQuote : ℕ → ℕ → Type 0
-  IsNextQuote at r = r ≡ first_place (λ k. get_or bytes k 0 == q) at bytes
-
-  special : (at r : ℕ) → IsNextQuote at r → r ≡ next_special d bytes at true
-  special at r is = found_quote d q sound doubles bytes at r is
-
-  run : (at r : ℕ) → at ≤ length bytes → IsNextQuote at r → (at ≤ r) × (r ≤ length bytes)
-  run at r le is = ((run_stands d bytes from sound within doubles.quote at r le (special at r is)).0, first_within at r is) where
-    first_within : (at r : ℕ) → IsNextQuote at r → r ≤ length bytes
-    first_within at r is = subst (λ n. n ≤ length bytes) (sym is) (first_place-within (λ k. get_or bytes k 0 == q) at bytes)
-
-  pub next_within : (at r : ℕ) → at ≤ length bytes → IsNextQuote at r → (at ≤ r) × (r ≤ length bytes)
-  next_within = run
-
-  opened : (at : ℕ) → IsNextQuote (from + 1) at → ReadInside d bytes from at false
-  opened at is = opens d bytes from sound within doubles.quote at (special (from + 1) at is)
-
-  closed : (at : ℕ) (escaped : Bool) → ReadInside d bytes from at escaped → at + 1 < length bytes → is_special false (class_of d (get_or bytes (at + 1) 0)) ≡ true →
-      ReadsField d bytes from (record { at = at + 1; ending = ending.Closed escaped })
-  closed at escaped read lt stops =
-      let inside : at < length bytes = omega (arith, lt) in
-      let quote : class_of d (get_or bytes at 0) ≡ class.Quote = is_quote d q sound doubles (get_or bytes at 0) (read.special inside) in
-      closes d bytes from sound within doubles.quote at escaped read inside (closing_role d q sound doubles bytes at quote inside (λ _. stops))
+  abbrev IsNext : ℕ → ℕ → Type 0
+  IsNext = IsNextQuote d bytes from sound within doubles
 
   -- no quote is doubled
-  pub quoted_text : (at : ℕ) → IsNextQuote (from + 1) at → at + 1 < length bytes → is_special false (class_of d (get_or bytes (at + 1) 0)) ≡ true →
+  pub quoted_text : (at : ℕ) → IsNext (from + 1) at → at + 1 < length bytes → is_special false (class_of d (get_or bytes (at + 1) 0)) ≡ true →
       IsField context Varchar bytes from (at + 1) (text_cell context.schema true (slice_range bytes (from + 1) at))
   quoted_text at is lt stops =
-      let reads = closed at false (opened at is) lt stops in
+      let reads = closed d bytes from sound within doubles at false (opened d bytes from sound within doubles at is) lt stops in
       let field : FieldEnd = record { at = at + 1; ending = ending.Closed false } in
       record {
-        ending = ending.Closed false;
-        sound = refl;
-        reads = reads;
+        well = record { ending = ending.Closed false; sound = refl; reads = reads };
         casts = ap (λ f. cell_at context.schema Varchar (Some f)) (sym (places_plain d bytes from field [] reads refl).is)
             ∙ ap (λ n. cell_of context.schema Varchar true (slice_range bytes (from + 1) n)) (same_place at)
             ∙ text_casts context.schema true (slice_range bytes (from + 1) at);
@@ -145,44 +112,28 @@ module _ (context : Context) (bytes : List ℕ) (from : ℕ) (sound : IsDialect 
 
   -- ---- run by run
 
-  -- the run that isn't copied yet is copied
-  copied_run : (copied at : ℕ) (value : List ℕ) → CopiedUpTo d bytes (from + 1) copied at [] value → CopiedUpTo d bytes (from + 1) at at [] (value ++ slice_range bytes copied at)
-  copied_run copied at value h = record {
-    low = omega (arith, h.low, h.high);
-    high = omega arith;
-    grown = (h.grown.0 ++ slice_range bytes copied at, ap (λ v. v ++ slice_range bytes copied at) h.grown.1);
-    so_far = λ rest.
-        h.so_far rest ∙ sym (append_assoc value (slice_range bytes copied at) (unescaped d rest))
-        ∙ ap (λ v. (value ++ slice_range bytes copied at) ++ (v ++ unescaped d rest)) (sym (no_bytes at));
-  } where
-    no_bytes : (k : ℕ) → slice_range bytes k k ≡ []
-    no_bytes k = let same : k - k ≡ 0 = omega arith in ap (λ n. take n (drop k bytes)) same
-
   none_left : (at : ℕ) (value : List ℕ) → value ++ slice_range bytes at at ≡ value
-  none_left at value = (let same : at - at ≡ 0 = omega arith in ap (λ n. value ++ take n (drop at bytes)) same) ∙ append-nil value
+  none_left at value = ap (λ v. value ++ v) (no_bytes bytes at) ∙ append-nil value
 
-  pub begins_text : (first : ℕ) → IsNextQuote (from + 1) first → HasText d bytes from first first (slice_range bytes (from + 1) first)
+  pub begins_text : (first : ℕ) → IsNext (from + 1) first → HasText d bytes from first first (slice_range bytes (from + 1) first)
   begins_text first is =
-      let read = opened first is in
-      let stands = run_stands d bytes from sound within doubles.quote (from + 1) first (omega (arith, within)) (special (from + 1) first is) in
+      let stands = next_stands d bytes from sound within doubles (from + 1) first (omega (arith, within)) is in
       record {
-        read = record { low = read.low; high = read.high; leads = read.leads; plain = λ none. absurd (true≢false none); special = read.special };
-        copied = copied_run (from + 1) first [] (copied_none d bytes (from + 1) [] first stands.0 stands.1);
+        read = either_way d bytes from sound within doubles first (opened d bytes from sound within doubles first is);
+        copied = copied_run d bytes (from + 1) [] (from + 1) first [] (copied_none d bytes (from + 1) [] first stands.0 stands.1);
         seen = inl refl;
       }
 
-  pub goes_on_text : (first at r : ℕ) (value : List ℕ) → HasText d bytes from first at value → at + 1 < length bytes → get_or bytes (at + 1) 0 ≡ q → IsNextQuote (at + 2) r →
+  pub goes_on_text : (first at r : ℕ) (value : List ℕ) → HasText d bytes from first at value → at + 1 < length bytes → get_or bytes (at + 1) 0 ≡ q → IsNext (at + 2) r →
       HasText d bytes from first r (value ++ slice_range bytes (at + 1) r)
   goes_on_text first at r value so lt behind is =
-      let inside : at < length bytes = omega (arith, lt) in
-      let quote : class_of d (get_or bytes at 0) ≡ class.Quote = is_quote d q sound doubles (get_or bytes at 0) (so.read.special inside) in
-      let pair = doubled_role d q sound doubles bytes at quote lt behind in
-      let stands = run_stands d bytes from sound within doubles.quote (at + 2) r (omega (arith, lt)) (special (at + 2) r is) in
+      let pair = pair_at d bytes from sound within doubles at so.read lt behind in
+      let stands = next_stands d bytes from sound within doubles (at + 2) r (omega (arith, lt)) is in
       let low : at + 1 < r = omega (arith, stands.0) in
       record {
-        read = goes_on d bytes from sound within doubles.quote at r true true so.read pair (special (at + 2) r is);
+        read = paired d bytes from sound within doubles at r so.read lt behind is;
         copied = subst (λ v. CopiedUpTo d bytes (from + 1) r r [] (v ++ slice_range bytes (at + 1) r)) (none_left at value)
-            (copied_run (at + 1) r (value ++ slice_range bytes at at)
+            (copied_run d bytes (from + 1) [] (at + 1) r (value ++ slice_range bytes at at)
             (copied_pair d bytes (from + 1) [] at at r value so.copied lt stands.0 (pair.3 refl) stands.1));
         seen = inr (record { before = value; behind = slice_range bytes (at + 1 + 1) r; is = ap (λ v. value ++ v) (slice_first bytes (at + 1) r low lt ∙ ap (λ b. b ∷ slice_range bytes (at + 1 + 1) r) behind) });
       }
@@ -190,15 +141,13 @@ module _ (context : Context) (bytes : List ℕ) (from : ℕ) (sound : IsDialect 
   pub doubled_text : (first at : ℕ) (value : List ℕ) → HoldsFields context → HasText d bytes from first at value → (at ≡ first → get_or bytes (at + 1) 0 ≡ q) → (get_or bytes (at + 1) 0 == q) ≡ false → at + 1 < length bytes →
       is_special false (class_of d (get_or bytes (at + 1) 0)) ≡ true → IsField context Varchar bytes from (at + 1) (text value)
   doubled_text first at value holds so two other lt stops =
-      let reads = closed at true so.read lt stops in
+      let reads = closed d bytes from sound within doubles at true so.read lt stops in
       let field : FieldEnd = record { at = at + 1; ending = ending.Closed true } in
       let whole : value ≡ [] ++ unescaped d (slice_range bytes (from + 1) (at + 1 - 1)) =
       sym (none_left at value) ∙ copied_all d bytes (from + 1) [] at at value so.copied ∙ ap (λ n. unescaped d (slice_range bytes (from + 1) n)) (sym (same_place at)) in
       let stored : slice_range value 0 (length value) ≡ value = take_all (length value - 0) value (omega arith) in
       record {
-        ending = ending.Closed true;
-        sound = refl;
-        reads = reads;
+        well = record { ending = ending.Closed true; sound = refl; reads = reads };
         casts = ap (λ f. cell_at context.schema Varchar (Some f)) (sym (places_unescaped d bytes from field [] value 0 (length value) reads refl whole refl refl).is)
             ∙ ap (λ v. cell_of context.schema Varchar true v) stored
             ∙ quoted_casts context.schema q value (no_quote holds) (by_place so.seen);

@@ -4,10 +4,9 @@ use Rattle.std.specs.List.{list_any}
 use Rattle.byte_classes.specs.Class.{class_of}
 use Rattle.byte_classes.specs.Special.{is_special}
 use Rattle.quote_automaton.specs.RowEnd.{row_len}
-use Rattle.row_fields.specs.declared.field.Ending.{Ending}
 use Rattle.row_fields.specs.Fields.{Field, fields, flaw}
 use Rattle.row_fields.specs.Plain.{LeavesPlain}
-use Rattle.row_fields.specs.Reading.{ReadsField, field_of, flaw_place}
+use Rattle.row_fields.specs.Reading.{EndsWell, field_of}
 use Rattle.row_fields.specs.Split.{row_from}
 use Rattle.value_types.specs.declared.types.ColumnType.{ColumnType}
 use Rattle.value_types.specs.declared.types.ColumnType.TheVariants.{Bigint, Varchar}
@@ -72,9 +71,7 @@ pub record IsNumberAt (bytes : List ℕ) (from : ℕ) (front : FrontNumber) : Ty
 
 -- the field between two places, whose cell in a column of this type is this one
 pub record IsField (context : Context) (ty : ColumnType) (bytes : List ℕ) (from end : ℕ) (cell : Datum) : Type 0 where
-  pub ending : Ending
-  pub sound : flaw_place from ending ≡ None
-  pub reads : ReadsField context.dialect bytes from (record { at = end; ending = ending })
+  pub well : EndsWell context.dialect bytes from end
   pub casts : cell_at context.schema ty (Some (field_of context.dialect from (slice_range bytes from end))) ≡ Some cell
 
 -- a cell is pushed, of the field that ends at a place if a byte stands there that ends fields

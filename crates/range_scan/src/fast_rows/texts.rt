@@ -12,6 +12,7 @@ use column_store::Chunk;
 use csv_source::NoMemory;
 use quote_automaton::doubled_quote;
 use reject_book::is_null;
+use row_fields::is_doubled;
 use value_types::Cell;
 
 /// The bytes from one place to another.
@@ -63,16 +64,6 @@ fn push_bare(
     }
     push_value(chunk, context, false, run(bytes, from, end))?;
     Ok(Some(end))
-}
-
-/// Whether the quote stands behind a place, too.
-#[inline(always)]
-fn is_doubled(quote: u8, bytes: &[u8], at: usize) -> bool
-    requires within { at ≤ length bytes.now }
-    ensures yes { result ≡ true → (at + 1 < length bytes.now) × (slice_index bytes.now (at + 1) ≡ quote) }
-    ensures no { result ≡ false → at + 1 < length bytes.now → (slice_index bytes.now (at + 1) == quote) ≡ false }
-{
-    bytes.len() - at > 1 && bytes[at + 1] == quote
 }
 
 /// Appends the text between quotes of which the first one inside, at `first`, is doubled. Each run behind a doubled quote

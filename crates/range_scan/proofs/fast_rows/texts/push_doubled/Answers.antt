@@ -4,13 +4,14 @@ use Rattle.value_types.specs.Datum.{text}
 use Rattle.value_types.specs.Texts.{on_last}
 use Rattle.column_store.specs.ChunkView.{ChunkView}
 use Rattle.column_store.specs.LongerText.{longer}
-use Rattle.range_scan.proofs.TextFields.{begins_text, doubled_text, goes_on_text, next_within}
+use Rattle.row_fields.proofs.DoubledReading.{next_within}
+use Rattle.range_scan.proofs.TextFields.{begins_text, doubled_text, goes_on_text}
 use Rattle.range_scan.proofs.TextSteps.{longer_by}
 use Rattle.range_scan.proofs.fast_rows.texts.push_doubled.Goals as goal
 
 pub run-requires-clause-ordered : goal.run-requires-clause-ordered
 run-requires-clause-ordered c =
-    (next_within c.args.context.now c.args.bytes.now c.args.from c.requires.holds.plain.leaves.sound c.requires.within c.requires.doubles (c.args.from + 1) c.args.first
+    (next_within c.args.context.now.dialect c.args.bytes.now c.args.from c.requires.holds.plain.leaves.sound c.requires.within c.requires.doubles (c.args.from + 1) c.args.first
     (omega (arith, c.requires.within)) c.requires.first).0
 
 pub quotes-init : goal.quotes-init
@@ -32,7 +33,7 @@ run-requires-in-quotes-clause-ordered c =
     let at = c.quotes.at in
     let r = c.next_byte-at.result in
     let two = c.is_doubled.ensures.yes c.quotes-test.true in
-    let next = next_within c.args.context.now bytes from c.requires.holds.plain.leaves.sound c.requires.within c.requires.doubles (at + 2) r (omega (arith, two.0)) c.next_byte-at.ensures in
+    let next = next_within c.args.context.now.dialect bytes from c.requires.holds.plain.leaves.sound c.requires.within c.requires.doubles (at + 2) r (omega (arith, two.0)) c.next_byte-at.ensures in
     omega (arith, next.0)
 
 pub run-requires-in-quotes-clause-within : goal.run-requires-in-quotes-clause-within
@@ -42,7 +43,7 @@ run-requires-in-quotes-clause-within c =
     let at = c.quotes.at in
     let r = c.next_byte-at.result in
     let two = c.is_doubled.ensures.yes c.quotes-test.true in
-    let next = next_within c.args.context.now bytes from c.requires.holds.plain.leaves.sound c.requires.within c.requires.doubles (at + 2) r (omega (arith, two.0)) c.next_byte-at.ensures in
+    let next = next_within c.args.context.now.dialect bytes from c.requires.holds.plain.leaves.sound c.requires.within c.requires.doubles (at + 2) r (omega (arith, two.0)) c.next_byte-at.ensures in
     next.1
 
 pub quotes-smaller : goal.quotes-smaller
@@ -52,7 +53,7 @@ quotes-smaller c =
     let at = c.quotes.at in
     let r = c.next_byte-at.result in
     let two = c.is_doubled.ensures.yes c.quotes-test.true in
-    let next = next_within c.args.context.now bytes from c.requires.holds.plain.leaves.sound c.requires.within c.requires.doubles (at + 2) r (omega (arith, two.0)) c.next_byte-at.ensures in
+    let next = next_within c.args.context.now.dialect bytes from c.requires.holds.plain.leaves.sound c.requires.within c.requires.doubles (at + 2) r (omega (arith, two.0)) c.next_byte-at.ensures in
     omega (arith, next.0, two.0)
 
 pub quotes-preserved : goal.quotes-preserved
