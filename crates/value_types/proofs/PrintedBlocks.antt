@@ -135,7 +135,7 @@ each-append : (xs ys : List ℕ) → Each1 (λ b. b < 256) xs → Each1 (λ b. b
 each-append [] ys first second = second
 each-append (x ∷ xs) ys first second = (first.0, each-append xs ys first.1 second)
 
-signed-append : (minus : Bool) (xs ys : List ℕ) → signed minus xs ++ ys ≡ signed minus (xs ++ ys)
+pub signed-append : (minus : Bool) (xs ys : List ℕ) → signed minus xs ++ ys ≡ signed minus (xs ++ ys)
 signed-append true xs ys = refl
 signed-append false xs ys = refl
 

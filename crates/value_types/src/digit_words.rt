@@ -1,10 +1,9 @@
 // Digits as they are printed, in words of bytes of which the first counts least: two at one look into a table.
-ghost use Rattle.std.specs.Prelude.{◌≡◌, ◌≤◌, ◌<◌, ◌+◌, ◌*◌, ◌/◌, ◌%◌, ◌++◌, ◌^◌, List, ℕ, length, OnErr, OnOk};
+ghost use Rattle.std.specs.Prelude.{◌≡◌, ◌≤◌, ◌<◌, ◌+◌, ◌*◌, ◌/◌, ◌%◌, ◌++◌, ◌^◌, List, ℕ, length, take};
 ghost use Rattle.std.specs.Fmt.{decimal};
 ghost use Rattle.value_types.specs.ValueText.{padded};
 ghost use Rattle.value_types.specs.Words.{IsBlock, signed, word_of};
 
-use csv_source::NoMemory;
 use std::simd::prelude::*;
 
 /// One more than the greatest word.
@@ -123,17 +122,17 @@ pub(crate) fn block(first: u64, second: u64) -> u128
     u128::from(first) + u128::from(second) * WORD
 }
 
-/// Appends a text of at most sixteen bytes. All sixteen are appended, and then the others dropped: that takes a store of a fixed
-/// length, and no call.
+/// Puts a text of at most sixteen bytes at a place, and answers the place behind it. All sixteen are stored: that takes a store of
+/// a fixed length, and no call.
 #[inline(always)]
-pub(crate) fn append_block(block: u128, count: usize, into: &mut Vec<u8>) -> Result<(), NoMemory>
-    requires { count ≤ 16 }
-    ensures ok { (text : List ℕ) → IsBlock text block → length text ≡ count → OnOk result (into.new.items ≡ into.old.items ++ text) }
-    ensures err { OnErr result (into.new.items ≡ into.old.items) }
+pub(crate) fn put_block(block: u128, count: usize, into: &mut [u8], at: usize) -> usize
+    requires short { count ≤ 16 }
+    requires room { at + 16 ≤ length into.old }
+    ensures text { (text : List ℕ) → IsBlock text block → length text ≡ count → take result into.new ≡ take at into.old ++ text }
+    ensures end { result ≡ at + count }
+    ensures same { length into.new ≡ length into.old }
 {
-    let kept = into.len() + count;
     let words = u64x2::from_array([(block % WORD) as u64, (block / WORD) as u64]);
-    into.extend_from_slice(words.to_le_bytes().as_array())?;
-    into.truncate(kept);
-    Ok(())
+    into[at..at + 16].copy_from_slice(words.to_le_bytes().as_array());
+    at + count
 }
