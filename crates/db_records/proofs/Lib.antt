@@ -2,3 +2,4 @@ pub mod Varints
 pub mod Records
 pub mod Cells
 pub mod Pages
+mod LastBytes

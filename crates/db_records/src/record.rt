@@ -1,7 +1,6 @@
 // A row as a record.
 ghost use Rattle.std.specs.Prelude.{◌≡◌, ◌++◌, ◌<◌, ◌^◌, length, OnOk};
-ghost use Rattle.db_records.specs.Record.{header_size};
-ghost use Rattle.db_records.specs.Varint.{varint};
+ghost use Rattle.db_records.specs.Record.{header_size, record_of};
 
 use crate::appending::append;
 use crate::varint::push_varint;
@@ -28,7 +27,7 @@ fn header_size(types: u64) -> u64
 /// Appends the record of these types and values.
 #[inline(always)]
 pub fn push_record(into: &mut Vec<u8>, types: &[u8], body: &[u8]) -> Result<(), NoMemory>
-    ensures ok { OnOk result (into.new.items ≡ into.old.items ++ varint (header_size (length types.now)) ++ types.now ++ body.now) }
+    ensures ok { OnOk result (into.new.items ≡ into.old.items ++ record_of types.now body.now) }
 {
     if types.len() >= MOST_TYPES {
         return Err(NoMemory);

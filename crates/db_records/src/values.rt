@@ -1,5 +1,6 @@
 // Values of a row: the type of each, and its bytes.
-ghost use Rattle.std.specs.Prelude.{◌≡◌, ◌+◌, ◌*◌, ◌<◌, ◌≤◌, ◌++◌, length, OnOk};
+ghost use Rattle.std.specs.Prelude.{◌≡◌, ◌+◌, ◌*◌, ◌<◌, ◌≤◌, ◌++◌, ℕ, List, if◌then◌else◌, length, pos, OnOk};
+ghost use Rattle.std.specs.Int.{bytes_high_first};
 ghost use Rattle.sqlite_value.specs.declared.value.Value.TheVariants.{Blob, Int, Null, Text};
 ghost use Rattle.db_records.specs.Record.{type_bytes, value_bytes};
 ghost use Rattle.db_records.specs.Varint.{varint};
@@ -18,6 +19,30 @@ const TEXT: u64 = 13;
 /// The type of bytes that are no text, where there are none.
 const BLOB: u64 = 12;
 
+/// Appends the type of so many bytes of a kind.
+#[inline(always)]
+fn push_type(types: &mut Vec<u8>, kind: u64, len: usize) -> Result<(), NoMemory>
+    requires known { kind ≤ 13 }
+    ensures ok { OnOk result (types.new.items ≡ types.old.items ++ varint (kind + 2 * len)) }
+{
+    // A type of one byte is told by one test.
+    if len < 58 {
+        return push_varint(types, kind + 2 * len as u64);
+    }
+    if len >= MOST_BYTES {
+        return Err(NoMemory);
+    }
+    push_varint(types, kind + 2 * len as u64)
+}
+
+/// Appends the type of a text of so many bytes.
+#[inline(always)]
+pub fn push_text_type(types: &mut Vec<u8>, len: usize) -> Result<(), NoMemory>
+    ensures { (text : List ℕ) → length text ≡ len → OnOk result (types.new.items ≡ types.old.items ++ type_bytes (Text text)) }
+{
+    push_type(types, TEXT, len)
+}
+
 /// Appends the type of so many bytes of a kind, and these.
 #[inline(always)]
 fn push_sized(
@@ -30,10 +55,7 @@ fn push_sized(
     ensures types { OnOk result (types.new.items ≡ types.old.items ++ varint (kind + 2 * length bytes.now)) }
     ensures body { OnOk result (body.new.items ≡ body.old.items ++ bytes.now) }
 {
-    if bytes.len() >= MOST_BYTES {
-        return Err(NoMemory);
-    }
-    push_varint(types, kind + 2 * bytes.len() as u64)?;
+    push_type(types, kind, bytes.len())?;
     append(body, bytes)
 }
 
@@ -67,20 +89,14 @@ fn int_serial(number: i64) -> u64
         number as u64
     };
     if number == 0 || number == 1 {
-        8 + steps
-    } else if steps < 1 << 7 {
-        1
-    } else if steps < 1 << 15 {
-        2
-    } else if steps < 1 << 23 {
-        3
-    } else if steps < 1 << 31 {
-        4
-    } else if steps < 1 << 47 {
-        5
-    } else {
-        6
+        return 8 + steps;
     }
+    // Numbers of different sizes follow one another: a sum takes no jump that depends on them.
+    1 + u64::from(steps >= 1 << 7)
+        + u64::from(steps >= 1 << 15)
+        + u64::from(steps >= 1 << 23)
+        + u64::from(steps >= 1 << 31)
+        + u64::from(steps >= 1 << 47)
 }
 
 /// How many bytes a number of a type takes.
@@ -97,6 +113,27 @@ fn int_size(serial: u64) -> u64
     }
 }
 
+/// Appends the last bytes of a number, at most eight. All eight are appended, and then the others dropped: that takes a store of a
+/// fixed length, and no call.
+#[inline(always)]
+fn push_last_bytes(body: &mut Vec<u8>, number: u64, size: usize) -> Result<(), NoMemory>
+    requires { size ≤ 8 }
+    ensures ok { OnOk result (body.new.items ≡ body.old.items ++ bytes_high_first size number) }
+{
+    let kept = body.len() + size;
+    append(body, &(number << ((64 - 8 * size) % 64)).to_be_bytes())?;
+    body.truncate(kept);
+    Ok(())
+}
+
+/// Appends the type of a truth, which has no bytes.
+#[inline(always)]
+pub fn push_truth(types: &mut Vec<u8>, truth: bool) -> Result<(), NoMemory>
+    ensures types { OnOk result (types.new.items ≡ types.old.items ++ type_bytes (Int (if truth then pos 1 else pos 0))) }
+{
+    push_varint(types, 8 + u64::from(truth))
+}
+
 /// Appends the type of a number and its bytes.
 #[inline(always)]
 pub fn push_integer(types: &mut Vec<u8>, body: &mut Vec<u8>, number: i64) -> Result<(), NoMemory>
@@ -106,7 +143,7 @@ pub fn push_integer(types: &mut Vec<u8>, body: &mut Vec<u8>, number: i64) -> Res
     let serial = int_serial(number);
     push_varint(types, serial)?;
     let size = int_size(serial) as usize;
-    append(body, &number.cast_unsigned().to_be_bytes()[8 - size..])
+    push_last_bytes(body, number.cast_unsigned(), size)
 }
 
 /// Appends the type of null, which has no bytes.

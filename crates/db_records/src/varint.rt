@@ -1,5 +1,5 @@
 // Numbers of one to eight bytes, the most significant digits first.
-ghost use Rattle.std.specs.Prelude.{◌≡◌, ◌≤◌, ◌++◌, length, OnOk};
+ghost use Rattle.std.specs.Prelude.{◌≡◌, ◌≤◌, ◌<◌, ◌^◌, ◌++◌, length, OnOk};
 ghost use Rattle.db_records.specs.Varint.{digits_before, marked, varint};
 
 use crate::appending::append;
@@ -49,10 +49,47 @@ pub fn varint_len(value: u64) -> usize
     digits_before(value) as usize + 1
 }
 
+/// A number of three bytes.
+#[inline(always)]
+pub(crate) fn three_digits(value: u64) -> [u8; 3]
+    requires { (2 ^ 14 ≤ value) × (value < 2 ^ 21) }
+    ensures { result ≡ varint value }
+{
+    let front = value / 128;
+    [
+        128 + (front / 128 % 128) as u8,
+        128 + (front % 128) as u8,
+        (value % 128) as u8,
+    ]
+}
+
+/// A number of four bytes.
+#[inline(always)]
+pub(crate) fn four_digits(value: u64) -> [u8; 4]
+    requires { (2 ^ 21 ≤ value) × (value < 2 ^ 28) }
+    ensures { result ≡ varint value }
+{
+    let front = value / 128;
+    [
+        128 + (front / 128 / 128 % 128) as u8,
+        128 + (front / 128 % 128) as u8,
+        128 + (front % 128) as u8,
+        (value % 128) as u8,
+    ]
+}
+
 /// Appends a number of three bytes or more.
 fn push_long_varint(into: &mut Vec<u8>, value: u64) -> Result<(), NoMemory>
+    requires long { 2 ^ 14 ≤ value }
     ensures ok { OnOk result (into.new.items ≡ into.old.items ++ varint value) }
 {
+    // Most rowids of large tables have three bytes or four.
+    if value < 1 << 21 {
+        return append(into, &three_digits(value));
+    }
+    if value < 1 << 28 {
+        return append(into, &four_digits(value));
+    }
     push_marked(into, digits_before(value), value / 128)?;
     append(into, &[(value % 128) as u8])
 }
@@ -64,10 +101,13 @@ pub fn push_varint(into: &mut Vec<u8>, value: u64) -> Result<(), NoMemory>
 {
     // Most numbers of a row have one byte or two.
     if value < 1 << 7 {
-        return append(into, &[value as u8]);
+        into.push(value as u8)?;
+        return Ok(());
     }
     if value < 1 << 14 {
-        return append(into, &[128 + (value / 128) as u8, (value % 128) as u8]);
+        into.push(128 + (value / 128) as u8)?;
+        into.push((value % 128) as u8)?;
+        return Ok(());
     }
     push_long_varint(into, value)
 }
