@@ -11,6 +11,7 @@ pub mod Images
 pub mod Joined
 pub mod LockPage
 pub mod Rows
+mod ShortRows
 pub mod Grouping
 pub mod Chains
 mod Worked

@@ -1,7 +1,8 @@
 // The cells of a page under way.
-ghost use Rattle.std.specs.Prelude.{◌≡◌, ◌==◌, ◌+◌, ◌*◌, ◌≤◌, ◌++◌, [], ◌∷◌, length, nat_le, OnOk};
+ghost use Rattle.std.specs.Prelude.{◌≡◌, ◌==◌, ◌+◌, ◌*◌, ◌≤◌, ◌<◌, ◌++◌, [], ◌∷◌, length, nat_le, OnOk};
 ghost use Rattle.db_records.specs.Cell.{cell_bytes};
 ghost use Rattle.db_records.specs.Page.{joined, leaf_page};
+ghost use Rattle.db_records.specs.Record.{record_of};
 ghost use Rattle.db_records.specs.Varint.{varint};
 ghost use Rattle.db_pages.specs.Laid.{is_empty_list, long_cell};
 ghost use Rattle.db_pages.specs.Levels.{inner_page};
@@ -12,7 +13,7 @@ use crate::child::Child;
 use crate::number::{PAGE, number_bytes};
 use crate::packing::{head_of, push_packed};
 use csv_source::NoMemory;
-use db_records::{append, cell_len, push_cell, push_varint, varint_len};
+use db_records::{append, cell_len, push_cell, push_values_cell, push_varint, varint_len};
 use std::alloc::Global;
 use std::marker::Model;
 
@@ -105,6 +106,32 @@ impl Cells {
     {
         self.sizes.push(cell_len(rowid, row) as u16)?;
         match push_cell(&mut self.bytes, rowid, row) {
+            Ok(()) => Ok(()),
+            Err(fault) => {
+                self.bytes.clear();
+                self.sizes.clear();
+                Err(fault)
+            }
+        }
+    }
+
+    /// Appends the cell, of so many bytes, of a row whose record is made of few types and some values, and stays whole.
+    #[inline(always)]
+    pub(crate) fn push_values(
+        &mut self,
+        size: usize,
+        rowid: u64,
+        types: &[u8],
+        body: &[u8],
+    ) -> Result<(), NoMemory>
+        requires few { length types.now < 127 }
+        requires short { length types.now + length body.now < 4061 }
+        requires size { size ≡ length (cell_bytes rowid (record_of types.now body.now)) }
+        requires room { 8 + 2 * (length self.old + 1) + length (joined self.old) + size ≤ 4096 }
+        ensures ok { OnOk result (self.new ≡ self.old ++ cell_bytes rowid (record_of types.now body.now) ∷ []) }
+    {
+        self.sizes.push(size as u16)?;
+        match push_values_cell(&mut self.bytes, rowid, types, body) {
             Ok(()) => Ok(()),
             Err(fault) => {
                 self.bytes.clear();

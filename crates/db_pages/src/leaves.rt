@@ -1,6 +1,7 @@
 // Rows in leaves.
-ghost use Rattle.std.specs.Prelude.{◌≡◌, ◌==◌, ◌+◌, ◌*◌, ◌<◌, ◌≤◌, [], ◌∷◌, length, IfOk, OnOk};
+ghost use Rattle.std.specs.Prelude.{◌≡◌, ◌==◌, ◌+◌, ◌*◌, ◌%◌, ◌<◌, ◌≤◌, [], ◌∷◌, if◌then◌else◌, length, IfOk, OnOk};
 ghost use Rattle.db_records.specs.Page.{joined};
+ghost use Rattle.db_records.specs.Record.{record_of};
 ghost use Rattle.db_pages.specs.Grown.{closed, filled, holds_at};
 ghost use Rattle.db_pages.specs.Laid.{ended, finished, next_place, roomy, with_long, with_rows, with_short};
 
@@ -10,7 +11,7 @@ use crate::child::Child;
 use crate::closed_leaves::ClosedLeaves;
 use crate::number::PAGE;
 use csv_source::NoMemory;
-use db_records::cell_len;
+use db_records::{cell_len, values_cell_len};
 use std::alloc::Global;
 use std::marker::Model;
 
@@ -62,6 +63,13 @@ impl Leaves {
             cells: Cells::new(alloc),
             last: 0,
         }
+    }
+
+    /// Makes room for about so many bytes of pages. Where so much can't be had at once, they may still grow into less.
+    pub fn reserve(&mut self, bytes: usize)
+        ensures { self.new ≡ self.old }
+    {
+        let _ = self.pages.reserve(bytes);
     }
 
     /// The leaf under way is a page.
@@ -116,6 +124,42 @@ impl Leaves {
         push_chain(&mut self.pages, place, behind)
     }
 
+    /// Ends a block, and so its leaf, behind a rowid that 8,192 divides.
+    #[inline(always)]
+    fn end_block(&mut self, rowid: u64) -> Result<(), NoMemory>
+        ensures ok { OnOk result (self.new ≡ record self.old { laid = if rowid % 8192 == 0 then ended self.old.base self.old.laid else self.old.laid }) }
+    {
+        if rowid % BLOCK == 0 {
+            self.end()?;
+        }
+        Ok(())
+    }
+
+    /// Appends a row whose record is made of few types and some values, and stays whole.
+    #[inline(always)]
+    fn push_short_values(&mut self, rowid: u64, types: &[u8], body: &[u8]) -> Result<(), NoMemory>
+        requires few { length types.now < 127 }
+        requires short { length types.now + length body.now < 4061 }
+        ensures ok { OnOk result (self.new ≡ record self.old { laid = with_short self.old.base self.old.laid rowid (record_of types.now body.now) }) }
+    {
+        let size = values_cell_len(rowid, types, body);
+        self.make_room(size)?;
+        self.cells.push_values(size, rowid, types, body)?;
+        self.last = rowid;
+        Ok(())
+    }
+
+    /// Appends a row by the few types and the values of its record, which stays whole.
+    #[inline(always)]
+    pub fn push_values(&mut self, rowid: u64, types: &[u8], body: &[u8]) -> Result<(), NoMemory>
+        requires few { length types.now < 127 }
+        requires short { length types.now + length body.now < 4061 }
+        ensures ok { OnOk result (self.new ≡ record self.old { laid = with_rows self.old.base self.old.laid rowid (record_of types.now body.now ∷ []) }) }
+    {
+        self.push_short_values(rowid, types, body)?;
+        self.end_block(rowid)
+    }
+
     /// Appends a row by its record. A rowid that 8,192 divides ends a block, and so its leaf. `NoMemory` also where the number of
     /// a page doesn't fit 32 bits.
     pub fn push(&mut self, rowid: u64, row: &[u8]) -> Result<(), NoMemory>
@@ -126,10 +170,7 @@ impl Leaves {
         } else {
             self.push_long(rowid, row)?;
         }
-        if rowid % BLOCK == 0 {
-            self.end()?;
-        }
-        Ok(())
+        self.end_block(rowid)
     }
 
     /// Ends the leaf under way, where it has a row.

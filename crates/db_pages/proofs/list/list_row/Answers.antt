@@ -1,8 +1,7 @@
-use Rattle.std.proofs.Common.{◌≡◌, ◌++◌, ◌∙◌, pos, length, flat_map, ap, codes, arith, to_z, of_z, to_z-of_z, w64}
+use Rattle.std.proofs.Common.{◌≡◌, ◌++◌, ◌∙◌, pos, flat_map, ap, codes, arith, to_z, of_z, to_z-of_z, w64}
 use Rattle.sqlite_value.specs.declared.value.Value.TheVariants.{Int, Text}
 use Rattle.sqlite_value.specs.Order.{Row}
-use Rattle.db_records.specs.Record.{header_size, type_bytes, value_bytes}
-use Rattle.db_records.specs.Varint.{varint}
+use Rattle.db_records.specs.Record.{record_of, type_bytes, value_bytes}
 use Rattle.db_pages.specs.Image.{list_row}
 use Rattle.db_pages.specs.Numbers.{number_of}
 use Rattle.db_pages.proofs.Appends.{five_behind}
@@ -24,6 +23,6 @@ returns c =
     c.in_ok-push_text.ensures.body c.in_ok-push_text-2.ensures.body c.in_ok-push_text-3.ensures.body
     (c.in_ok-push_integer.ensures.body ∙ ap (λ n. c.push_text-3.new.body.items ++ value_bytes (Int n)) (same ∙ number)) c.in_ok-push_text-4.ensures.body in
     c.in_ok-push_record.ensures.ok
-    ∙ ap (λ xs. xs ++ varint (header_size (length c.deref.result.now)) ++ c.deref.result.now ++ c.deref-2.result.now) c.new-row.ensures.items
-    ∙ ap (λ xs. varint (header_size (length xs)) ++ xs ++ c.deref-2.result.now) (c.deref.ensures.value ∙ types)
-    ∙ ap (λ xs. varint (header_size (length (flat_map type_bytes row))) ++ flat_map type_bytes row ++ xs) (c.deref-2.ensures.value ∙ body)
+    ∙ ap (λ xs. xs ++ record_of c.deref.result.now c.deref-2.result.now) c.new-row.ensures.items
+    ∙ ap (λ xs. record_of xs c.deref-2.result.now) (c.deref.ensures.value ∙ types)
+    ∙ ap (λ xs. record_of (flat_map type_bytes row) xs) (c.deref-2.ensures.value ∙ body)
