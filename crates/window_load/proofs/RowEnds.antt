@@ -1,93 +1,21 @@
 -- A range's part in a window in which a row begins behind the range: then each row of the range ends in the window, whatever comes later.
-use Rattle.std.proofs.Common.{◌≡◌, ℕ, zero, suc, ◌+◌, ◌-◌, ◌<◌, ◌≤◌, Bool, true, false, cond, List, [], ◌∷◌, ◌++◌, map, length, take, drop, get_or, refl, sym, ◌∙◌, ap, subst, arith, length-take, length-drop, length-append}
+use Rattle.std.proofs.Common.{◌≡◌, ℕ, zero, suc, ◌+◌, ◌-◌, ◌<◌, ◌≤◌, true, cond, List, [], ◌∷◌, ◌++◌, map, length, take, drop, get_or, refl, sym, ◌∙◌, ap, subst, arith, length-take, length-drop, length-append}
 use Rattle.std.specs.Prelude.{Option, Some, None, find, flat_map, option_map, is_some, slice_range}
 use Rattle.std.specs.List.{last_or}
 use Rattle.std.proofs.lemmas.List.{take-append-le, drop-append-le, take-append-drop, take_all, get_or-append-add}
 use Rattle.std.proofs.Math.Seq.{drop-append-add}
-use Rattle.byte_classes.specs.declared.class.Class.{Class}
-use Rattle.byte_classes.specs.declared.class.Class.TheVariants as class
 use Rattle.byte_classes.specs.Dialect.{Marks}
 use Rattle.byte_classes.specs.Class.{class_of}
 use Rattle.byte_classes.specs.LineEnds.{line_ends}
 use Rattle.byte_classes.specs.Places.{places, byte_before}
 use Rattle.byte_classes.proofs.PlaceLaws.{by_find}
 use Rattle.quote_automaton.specs.declared.state.State.{State}
-use Rattle.quote_automaton.specs.declared.state.State.TheVariants.{RowStart, FieldStart, Plain, Quoted, Escape, QuoteSeen, Broken, CrSeen, Comment}
-use Rattle.quote_automaton.specs.Automaton.{doubles_quotes, next, step, state_after}
+use Rattle.quote_automaton.specs.Automaton.{step, state_after}
 use Rattle.quote_automaton.specs.Rows.{begins_row, ends_row, first_row_start, is_row_start, row_at, row_starts}
+use Rattle.quote_automaton.proofs.RowBegins.{begins_behind_end}
 use Rattle.quote_automaton.proofs.RowLaws.{map-filter_range, row_at-cons_suc, row_at-cons_zero, state_at-append}
 use Rattle.reject_book.specs.Verdict.{cells_of, faults_of}
 use Rattle.range_scan.specs.Part.{Judge, part_of, verdict_at}
-
--- a row begins at a byte only where a row ended right before it
-begins_behind_end : (d : Marks) (s : State) (c e : Class) → begins_row (next d s c) e ≡ true → ends_row s c ≡ true
-begins_behind_end d RowStart class.Lf e begins = refl
-begins_behind_end d RowStart class.Cr e begins = refl
-begins_behind_end d RowStart class.Delim e begins = absurd (let no : ⊥ = cc in no)
-begins_behind_end d RowStart class.Quote e begins = absurd (let no : ⊥ = cc in no)
-begins_behind_end d RowStart class.Escape e begins = absurd (let no : ⊥ = cc in no)
-begins_behind_end d RowStart class.Comment e begins = absurd (let no : ⊥ = cc in no)
-begins_behind_end d RowStart class.Other e begins = absurd (let no : ⊥ = cc in no)
-begins_behind_end d FieldStart class.Lf e begins = refl
-begins_behind_end d FieldStart class.Cr e begins = refl
-begins_behind_end d FieldStart class.Delim e begins = absurd (let no : ⊥ = cc in no)
-begins_behind_end d FieldStart class.Quote e begins = absurd (let no : ⊥ = cc in no)
-begins_behind_end d FieldStart class.Escape e begins = absurd (let no : ⊥ = cc in no)
-begins_behind_end d FieldStart class.Comment e begins = absurd (let no : ⊥ = cc in no)
-begins_behind_end d FieldStart class.Other e begins = absurd (let no : ⊥ = cc in no)
-begins_behind_end d Plain class.Lf e begins = refl
-begins_behind_end d Plain class.Cr e begins = refl
-begins_behind_end d Plain class.Delim e begins = absurd (let no : ⊥ = cc in no)
-begins_behind_end d Plain class.Quote e begins = absurd (let no : ⊥ = cc in no)
-begins_behind_end d Plain class.Escape e begins = absurd (let no : ⊥ = cc in no)
-begins_behind_end d Plain class.Comment e begins = absurd (let no : ⊥ = cc in no)
-begins_behind_end d Plain class.Other e begins = absurd (let no : ⊥ = cc in no)
-begins_behind_end d Quoted class.Lf e begins = absurd (let no : ⊥ = cc in no)
-begins_behind_end d Quoted class.Cr e begins = absurd (let no : ⊥ = cc in no)
-begins_behind_end d Quoted class.Delim e begins = absurd (let no : ⊥ = cc in no)
-begins_behind_end d Quoted class.Quote e begins = absurd (let no : ⊥ = cc in no)
-begins_behind_end d Quoted class.Escape e begins = absurd (let no : ⊥ = cc in no)
-begins_behind_end d Quoted class.Comment e begins = absurd (let no : ⊥ = cc in no)
-begins_behind_end d Quoted class.Other e begins = absurd (let no : ⊥ = cc in no)
-begins_behind_end d Escape class.Lf e begins = absurd (let no : ⊥ = cc in no)
-begins_behind_end d Escape class.Cr e begins = absurd (let no : ⊥ = cc in no)
-begins_behind_end d Escape class.Delim e begins = absurd (let no : ⊥ = cc in no)
-begins_behind_end d Escape class.Quote e begins = absurd (let no : ⊥ = cc in no)
-begins_behind_end d Escape class.Escape e begins = absurd (let no : ⊥ = cc in no)
-begins_behind_end d Escape class.Comment e begins = absurd (let no : ⊥ = cc in no)
-begins_behind_end d Escape class.Other e begins = absurd (let no : ⊥ = cc in no)
-begins_behind_end d QuoteSeen class.Lf e begins = refl
-begins_behind_end d QuoteSeen class.Cr e begins = refl
-begins_behind_end d QuoteSeen class.Delim e begins = absurd (let no : ⊥ = cc in no)
-begins_behind_end d QuoteSeen class.Quote e begins = quoted_or_broken (doubles_quotes d) begins
-  where
-    quoted_or_broken : (b : Bool) → begins_row (cond b Quoted Broken) e ≡ true → ends_row QuoteSeen class.Quote ≡ true
-    quoted_or_broken true wrong = absurd (let no : ⊥ = cc in no)
-    quoted_or_broken false wrong = absurd (let no : ⊥ = cc in no)
-begins_behind_end d QuoteSeen class.Escape e begins = absurd (let no : ⊥ = cc in no)
-begins_behind_end d QuoteSeen class.Comment e begins = absurd (let no : ⊥ = cc in no)
-begins_behind_end d QuoteSeen class.Other e begins = absurd (let no : ⊥ = cc in no)
-begins_behind_end d Broken class.Lf e begins = refl
-begins_behind_end d Broken class.Cr e begins = refl
-begins_behind_end d Broken class.Delim e begins = absurd (let no : ⊥ = cc in no)
-begins_behind_end d Broken class.Quote e begins = absurd (let no : ⊥ = cc in no)
-begins_behind_end d Broken class.Escape e begins = absurd (let no : ⊥ = cc in no)
-begins_behind_end d Broken class.Comment e begins = absurd (let no : ⊥ = cc in no)
-begins_behind_end d Broken class.Other e begins = absurd (let no : ⊥ = cc in no)
-begins_behind_end d CrSeen class.Lf e begins = refl
-begins_behind_end d CrSeen class.Cr e begins = refl
-begins_behind_end d CrSeen class.Delim e begins = absurd (let no : ⊥ = cc in no)
-begins_behind_end d CrSeen class.Quote e begins = absurd (let no : ⊥ = cc in no)
-begins_behind_end d CrSeen class.Escape e begins = absurd (let no : ⊥ = cc in no)
-begins_behind_end d CrSeen class.Comment e begins = absurd (let no : ⊥ = cc in no)
-begins_behind_end d CrSeen class.Other e begins = absurd (let no : ⊥ = cc in no)
-begins_behind_end d Comment class.Lf e begins = refl
-begins_behind_end d Comment class.Cr e begins = refl
-begins_behind_end d Comment class.Delim e begins = absurd (let no : ⊥ = cc in no)
-begins_behind_end d Comment class.Quote e begins = absurd (let no : ⊥ = cc in no)
-begins_behind_end d Comment class.Escape e begins = absurd (let no : ⊥ = cc in no)
-begins_behind_end d Comment class.Comment e begins = absurd (let no : ⊥ = cc in no)
-begins_behind_end d Comment class.Other e begins = absurd (let no : ⊥ = cc in no)
 
 -- a row is the same with more behind its bytes, where another one begins in them
 row_more : (d : Marks) (s : State) (ys zs : List ℕ) (q : ℕ) → 0 < q → q < length ys → is_row_start d s ys q ≡ true → row_at d s (ys ++ zs) 0 ≡ row_at d s ys 0
