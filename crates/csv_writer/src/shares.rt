@@ -9,7 +9,7 @@ use column_store::Table;
 use std::alloc::Global;
 use std::thread;
 use std::thread::Threads;
-use text_pieces::Share;
+use text_pieces::{Draft, Share};
 
 /// Writes the rows of a share.
 fn write_share(alloc: Global, table: &Table, share: &mut Share)
@@ -19,11 +19,10 @@ fn write_share(alloc: Global, table: &Table, share: &mut Share)
 {
     // The text grows on the worker's own stack: the shares lie side by side, so that lengths which workers write there byte by
     // byte would pass a line of the cache to and fro between them.
-    let mut text = Vec::new(alloc);
-    // Where so much can't be had at once, the text may still grow into less.
-    let _ = text.reserve(rows_room(share.to - share.from, table.columns()));
+    let mut text = Draft::new(alloc);
+    text.reserve(rows_room(share.to - share.from, table.columns()));
     share.made = write_rows(table, share.from, share.to, &mut text).is_ok();
-    share.text = text;
+    share.text = text.into_text();
 }
 
 /// Writes the rows of all shares, each by a worker of its own.

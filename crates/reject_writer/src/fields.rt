@@ -5,6 +5,7 @@ ghost use Rattle.reject_writer.specs.WrittenField.{written_field};
 
 use csv_source::NoMemory;
 use csv_writer::{push_comma, push_text};
+use text_pieces::Draft;
 
 /// A field of a line, as it stands on the caller's stack.
 #[derive(Clone, Copy)]
@@ -14,8 +15,8 @@ pub(crate) enum Field<'a> {
 }
 
 /// Appends a field.
-fn push_field(into: &mut Vec<u8>, field: Field<'_>) -> Result<(), NoMemory>
-    ensures { OnOk result (into.new.items ≡ into.old.items ++ written_field field.entry) }
+fn push_field(into: &mut Draft, field: Field<'_>) -> Result<(), NoMemory>
+    ensures { OnOk result (into.new.text ≡ into.old.text ++ written_field field.entry) }
 {
     match field {
         Field::Text(text) => push_text(into, text),
@@ -24,14 +25,13 @@ fn push_field(into: &mut Vec<u8>, field: Field<'_>) -> Result<(), NoMemory>
 }
 
 /// Appends a line of fields. A line takes no memory of its own.
-pub(crate) fn push_line(into: &mut Vec<u8>, fields: &[Field<'_>]) -> Result<(), NoMemory>
-    ensures { OnOk result (into.new.items ≡ into.old.items ++ line_of_fields (map written_field fields.now)) }
+pub(crate) fn push_line(into: &mut Draft, fields: &[Field<'_>]) -> Result<(), NoMemory>
+    ensures { OnOk result (into.new.text ≡ into.old.text ++ line_of_fields (map written_field fields.now)) }
 {
     for column in 0..fields.len() {
         let field = fields[column];
         push_comma(into, column)?;
         push_field(into, field)?;
     }
-    into.push(b'\n')?;
-    Ok(())
+    into.push(b'\n')
 }

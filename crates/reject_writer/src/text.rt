@@ -7,11 +7,11 @@ use crate::fields::{Field, push_line};
 use csv_source::NoMemory;
 use reject_book::{Book, Reject, kind_name};
 use std::alloc::Global;
-use text_pieces::Pieces;
+use text_pieces::{Draft, Pieces};
 
 /// Appends the line of names.
-fn push_names(into: &mut Vec<u8>) -> Result<(), NoMemory>
-    ensures { OnOk result (into.new.items ≡ into.old.items ++ names_line reject_names) }
+fn push_names(into: &mut Draft) -> Result<(), NoMemory>
+    ensures { OnOk result (into.new.text ≡ into.old.text ++ names_line reject_names) }
 {
     push_line(
         into,
@@ -31,8 +31,8 @@ fn push_names(into: &mut Vec<u8>) -> Result<(), NoMemory>
 }
 
 /// Appends the line of a reject.
-fn push_reject(into: &mut Vec<u8>, reject: &Reject) -> Result<(), NoMemory>
-    ensures { OnOk result (into.new.items ≡ into.old.items ++ reject_line reject.now) }
+fn push_reject(into: &mut Draft, reject: &Reject) -> Result<(), NoMemory>
+    ensures { OnOk result (into.new.text ≡ into.old.text ++ reject_line reject.now) }
 {
     push_line(
         into,
@@ -52,8 +52,8 @@ fn push_reject(into: &mut Vec<u8>, reject: &Reject) -> Result<(), NoMemory>
 }
 
 /// Appends the lines of the stored rejects.
-fn push_stored(into: &mut Vec<u8>, book: &Book) -> Result<(), NoMemory>
-    ensures { OnOk result (into.new.items ≡ into.old.items ++ flat_map reject_line book.now.stored) }
+fn push_stored(into: &mut Draft, book: &Book) -> Result<(), NoMemory>
+    ensures { OnOk result (into.new.text ≡ into.old.text ++ flat_map reject_line book.now.stored) }
 {
     for index in 0..book.len() {
         push_reject(into, book.get(index))?;
@@ -65,8 +65,8 @@ fn push_stored(into: &mut Vec<u8>, book: &Book) -> Result<(), NoMemory>
 pub fn write_rejects(alloc: Global, book: &Book) -> Result<Pieces, NoMemory>
     ensures { IfOk result (λ text. text ≡ written_rejects book.now.stored) }
 {
-    let mut text = Vec::new(alloc);
+    let mut text = Draft::new(alloc);
     push_names(&mut text)?;
     push_stored(&mut text, book)?;
-    Ok(Pieces::of(alloc, text))
+    Ok(Pieces::of(alloc, text.into_text()))
 }

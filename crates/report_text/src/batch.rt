@@ -14,11 +14,11 @@ use csv_sniffer::Sniffed;
 use csv_source::NoMemory;
 use file_list::Batch;
 use std::thread::Threads;
-use text_pieces::Pieces;
+use text_pieces::{Draft, Pieces};
 
 /// Appends the scan and the stored rejects of each file, in order.
-fn push_scans(into: &mut Vec<u8>, sniffed: &Sniffed, batch: &Batch) -> Result<(), NoMemory>
-    ensures { OnOk result (into.new.items ≡ into.old.items ++ scans_from sniffed.now 0 batch.now.files) }
+fn push_scans(into: &mut Draft, sniffed: &Sniffed, batch: &Batch) -> Result<(), NoMemory>
+    ensures { OnOk result (into.new.text ≡ into.old.text ++ scans_from sniffed.now 0 batch.now.files) }
 {
     for index in 0..batch.len() {
         push_scan(into, sniffed, index as u64, batch.file(index))?;
@@ -29,12 +29,12 @@ fn push_scans(into: &mut Vec<u8>, sniffed: &Sniffed, batch: &Batch) -> Result<()
 
 /// Appends the scans, where rejects are stored.
 fn push_scans_if(
-    into: &mut Vec<u8>,
+    into: &mut Draft,
     sniffed: &Sniffed,
     store: bool,
     batch: &Batch,
 ) -> Result<(), NoMemory>
-    ensures { OnOk result (into.new.items ≡ into.old.items ++ scan_lines sniffed.now store batch.now.files) }
+    ensures { OnOk result (into.new.text ≡ into.old.text ++ scan_lines sniffed.now store batch.now.files) }
 {
     if !store {
         return Ok(());
@@ -85,9 +85,9 @@ pub(crate) struct BatchReport<'a> {
 }
 
 /// Appends what stands behind the rows of several loaded files.
-fn push_batch_closing(into: &mut Vec<u8>, report: &BatchReport<'_>) -> Result<(), NoMemory>
+fn push_batch_closing(into: &mut Draft, report: &BatchReport<'_>) -> Result<(), NoMemory>
     ensures { let closing = batch_closing report.now.sniffed.now report.now.batch.now report.now.store report.now.stats.now in
-        OnOk result (into.new.items ≡ into.old.items ++ closing) }
+        OnOk result (into.new.text ≡ into.old.text ++ closing) }
 {
     let batch = report.batch;
     push_row_count(into, batch.table().rows())?;
@@ -106,11 +106,11 @@ pub(crate) fn push_batch<R: Threads + Sync>(
     ensures { let lines = batch_lines report.now.sniffed.now report.now.batch.now report.now.store report.now.stats.now in
         OnOk result (into.new ≡ into.old ++ lines) }
 {
-    let mut head = Vec::new(workers.alloc);
+    let mut head = Draft::new(workers.alloc);
     push_found(&mut head, report.sniffed)?;
-    into.push(head)?;
+    into.push(head.into_text())?;
     push_table(workers, into, report.batch.table())?;
-    let mut tail = Vec::new(workers.alloc);
+    let mut tail = Draft::new(workers.alloc);
     push_batch_closing(&mut tail, report)?;
-    into.push(tail)
+    into.push(tail.into_text())
 }

@@ -9,11 +9,12 @@ use csv_sniffer::{Explanation, Hint, Sniffed, Why};
 use csv_source::{Bytes, NoMemory};
 use dialect_rank::Scored;
 use std::alloc::Global;
+use text_pieces::Draft;
 use value_types::{ColumnType, type_name};
 
 /// Appends the line of a candidate.
-fn push_candidate(into: &mut Vec<u8>, candidate: &Scored) -> Result<(), NoMemory>
-    ensures { OnOk result (into.new.items ≡ into.old.items ++ candidate_line candidate.now) }
+fn push_candidate(into: &mut Draft, candidate: &Scored) -> Result<(), NoMemory>
+    ensures { OnOk result (into.new.text ≡ into.old.text ++ candidate_line candidate.now) }
 {
     push_line(
         into,
@@ -33,8 +34,8 @@ fn push_candidate(into: &mut Vec<u8>, candidate: &Scored) -> Result<(), NoMemory
 }
 
 /// Appends the line of each candidate.
-fn push_candidates(into: &mut Vec<u8>, candidates: &[Scored]) -> Result<(), NoMemory>
-    ensures { OnOk result (into.new.items ≡ into.old.items ++ flat_map candidate_line candidates.now) }
+fn push_candidates(into: &mut Draft, candidates: &[Scored]) -> Result<(), NoMemory>
+    ensures { OnOk result (into.new.text ≡ into.old.text ++ flat_map candidate_line candidates.now) }
 {
     for candidate in candidates {
         push_candidate(into, candidate)?;
@@ -43,8 +44,8 @@ fn push_candidates(into: &mut Vec<u8>, candidates: &[Scored]) -> Result<(), NoMe
 }
 
 /// Appends the names of types, with a comma before each.
-fn push_further_types(into: &mut Vec<u8>, types: &[ColumnType]) -> Result<(), NoMemory>
-    ensures { OnOk result (into.new.items ≡ into.old.items ++ flat_map further_type types.now) }
+fn push_further_types(into: &mut Draft, types: &[ColumnType]) -> Result<(), NoMemory>
+    ensures { OnOk result (into.new.text ≡ into.old.text ++ flat_map further_type types.now) }
 {
     for ty in types {
         into.push(b',')?;
@@ -54,8 +55,8 @@ fn push_further_types(into: &mut Vec<u8>, types: &[ColumnType]) -> Result<(), No
 }
 
 /// Appends the names of types, with commas between.
-fn push_type_names(into: &mut Vec<u8>, types: &[ColumnType]) -> Result<(), NoMemory>
-    ensures { OnOk result (into.new.items ≡ into.old.items ++ type_names types.now) }
+fn push_type_names(into: &mut Draft, types: &[ColumnType]) -> Result<(), NoMemory>
+    ensures { OnOk result (into.new.text ≡ into.old.text ++ type_names types.now) }
 {
     match types {
         [] => Ok(()),
@@ -67,8 +68,8 @@ fn push_type_names(into: &mut Vec<u8>, types: &[ColumnType]) -> Result<(), NoMem
 }
 
 /// Appends the words that fix the dialect and the header.
-fn push_words_alone(into: &mut Vec<u8>, sniffed: &Sniffed) -> Result<(), NoMemory>
-    ensures { OnOk result (into.new.items ≡ into.old.items ++ words_line false sniffed.now) }
+fn push_words_alone(into: &mut Draft, sniffed: &Sniffed) -> Result<(), NoMemory>
+    ensures { OnOk result (into.new.text ≡ into.old.text ++ words_line false sniffed.now) }
 {
     push_line(
         into,
@@ -83,9 +84,9 @@ fn push_words_alone(into: &mut Vec<u8>, sniffed: &Sniffed) -> Result<(), NoMemor
 }
 
 /// Appends the words that fix the dialect, the header and the types, whose names are given.
-fn push_words_with(into: &mut Vec<u8>, sniffed: &Sniffed, types: &[u8]) -> Result<(), NoMemory>
+fn push_words_with(into: &mut Draft, sniffed: &Sniffed, types: &[u8]) -> Result<(), NoMemory>
     requires named { types.now ≡ type_names sniffed.now.types }
-    ensures { OnOk result (into.new.items ≡ into.old.items ++ words_line true sniffed.now) }
+    ensures { OnOk result (into.new.text ≡ into.old.text ++ words_line true sniffed.now) }
 {
     push_line(
         into,
@@ -104,19 +105,19 @@ fn push_words_with(into: &mut Vec<u8>, sniffed: &Sniffed, types: &[u8]) -> Resul
 fn type_names(alloc: Global, types: &[ColumnType]) -> Result<Bytes, NoMemory>
     ensures { IfOk result (λ names. names ≡ type_names types.now) }
 {
-    let mut names = Vec::new(alloc);
+    let mut names = Draft::new(alloc);
     push_type_names(&mut names, types)?;
-    Ok(Bytes::from_vec(names))
+    Ok(Bytes::from_vec(names.into_text()))
 }
 
 /// Appends the words that fix what was found.
 fn push_words(
-    into: &mut Vec<u8>,
+    into: &mut Draft,
     alloc: Global,
     fixes_types: bool,
     sniffed: &Sniffed,
 ) -> Result<(), NoMemory>
-    ensures { OnOk result (into.new.items ≡ into.old.items ++ words_line fixes_types sniffed.now) }
+    ensures { OnOk result (into.new.text ≡ into.old.text ++ words_line fixes_types sniffed.now) }
 {
     if !fixes_types {
         return push_words_alone(into, sniffed);
@@ -126,8 +127,8 @@ fn push_words(
 }
 
 /// Appends the line of a reason.
-fn push_why(into: &mut Vec<u8>, why: &Why) -> Result<(), NoMemory>
-    ensures { OnOk result (into.new.items ≡ into.old.items ++ why_line why.now) }
+fn push_why(into: &mut Draft, why: &Why) -> Result<(), NoMemory>
+    ensures { OnOk result (into.new.text ≡ into.old.text ++ why_line why.now) }
 {
     push_line(
         into,
@@ -142,8 +143,8 @@ fn push_why(into: &mut Vec<u8>, why: &Why) -> Result<(), NoMemory>
 }
 
 /// Appends the line of each reason.
-fn push_whys(into: &mut Vec<u8>, whys: &[Why]) -> Result<(), NoMemory>
-    ensures { OnOk result (into.new.items ≡ into.old.items ++ flat_map why_line whys.now) }
+fn push_whys(into: &mut Draft, whys: &[Why]) -> Result<(), NoMemory>
+    ensures { OnOk result (into.new.text ≡ into.old.text ++ flat_map why_line whys.now) }
 {
     for why in whys {
         push_why(into, why)?;
@@ -152,8 +153,8 @@ fn push_whys(into: &mut Vec<u8>, whys: &[Why]) -> Result<(), NoMemory>
 }
 
 /// Appends the word that gives a column of a name the type VARCHAR.
-fn push_varchar_word(into: &mut Vec<u8>, name: &[u8]) -> Result<(), NoMemory>
-    ensures { OnOk result (into.new.items ≡ into.old.items ++ varchar_word name.now) }
+fn push_varchar_word(into: &mut Draft, name: &[u8]) -> Result<(), NoMemory>
+    ensures { OnOk result (into.new.text ≡ into.old.text ++ varchar_word name.now) }
 {
     push_plain(into, b"column_types=")?;
     push_shown(into, name)?;
@@ -161,8 +162,8 @@ fn push_varchar_word(into: &mut Vec<u8>, name: &[u8]) -> Result<(), NoMemory>
 }
 
 /// Appends the word of a hint.
-fn push_hint_text(into: &mut Vec<u8>, hint: &Hint) -> Result<(), NoMemory>
-    ensures { OnOk result (into.new.items ≡ into.old.items ++ hint_text hint.now) }
+fn push_hint_text(into: &mut Draft, hint: &Hint) -> Result<(), NoMemory>
+    ensures { OnOk result (into.new.text ≡ into.old.text ++ hint_text hint.now) }
 {
     match hint {
         Hint::Delim(delim) => {
@@ -179,8 +180,8 @@ fn push_hint_text(into: &mut Vec<u8>, hint: &Hint) -> Result<(), NoMemory>
 }
 
 /// Appends the line of a hint.
-fn push_hint(into: &mut Vec<u8>, hint: &Hint) -> Result<(), NoMemory>
-    ensures { OnOk result (into.new.items ≡ into.old.items ++ hint_line hint.now) }
+fn push_hint(into: &mut Draft, hint: &Hint) -> Result<(), NoMemory>
+    ensures { OnOk result (into.new.text ≡ into.old.text ++ hint_line hint.now) }
 {
     push_plain(into, b"hint|")?;
     push_hint_text(into, hint)?;
@@ -188,8 +189,8 @@ fn push_hint(into: &mut Vec<u8>, hint: &Hint) -> Result<(), NoMemory>
 }
 
 /// Appends the line of each hint.
-fn push_hints(into: &mut Vec<u8>, hints: &[Hint]) -> Result<(), NoMemory>
-    ensures { OnOk result (into.new.items ≡ into.old.items ++ flat_map hint_line hints.now) }
+fn push_hints(into: &mut Draft, hints: &[Hint]) -> Result<(), NoMemory>
+    ensures { OnOk result (into.new.text ≡ into.old.text ++ flat_map hint_line hints.now) }
 {
     for hint in hints {
         push_hint(into, hint)?;
@@ -199,12 +200,12 @@ fn push_hints(into: &mut Vec<u8>, hints: &[Hint]) -> Result<(), NoMemory>
 
 /// Appends why a file was found to be as it is.
 pub(crate) fn push_explanation(
-    into: &mut Vec<u8>,
+    into: &mut Draft,
     alloc: Global,
     sniffed: &Sniffed,
     explanation: &Explanation,
 ) -> Result<(), NoMemory>
-    ensures { OnOk result (into.new.items ≡ into.old.items ++ explanation_lines sniffed.now explanation.now) }
+    ensures { OnOk result (into.new.text ≡ into.old.text ++ explanation_lines sniffed.now explanation.now) }
 {
     push_candidates(into, explanation.candidates())?;
     push_words(into, alloc, explanation.fixes_types(), sniffed)?;

@@ -7,6 +7,7 @@ use crate::lines::{Part, push_line, push_number, push_plain};
 use crate::shown::push_shown;
 use csv_source::NoMemory;
 use load_options::{WordFault, WordRule};
+use text_pieces::Draft;
 
 /// The name of a rule.
 fn rule_name(rule: WordRule) -> &'static [u8]
@@ -24,12 +25,8 @@ fn rule_name(rule: WordRule) -> &'static [u8]
 }
 
 /// Appends the line of refused words.
-pub(crate) fn push_refused(
-    into: &mut Vec<u8>,
-    fault: &WordFault,
-    word: &[u8],
-) -> Result<(), NoMemory>
-    ensures { OnOk result (into.new.items ≡ into.old.items ++ refused_line fault.now word.now) }
+pub(crate) fn push_refused(into: &mut Draft, fault: &WordFault, word: &[u8]) -> Result<(), NoMemory>
+    ensures { OnOk result (into.new.text ≡ into.old.text ++ refused_line fault.now word.now) }
 {
     push_line(
         into,
@@ -43,15 +40,15 @@ pub(crate) fn push_refused(
 }
 
 /// Appends the line of a read fault.
-pub(crate) fn push_read_fault(into: &mut Vec<u8>) -> Result<(), NoMemory>
-    ensures { OnOk result (into.new.items ≡ into.old.items ++ read_fault_line) }
+pub(crate) fn push_read_fault(into: &mut Draft) -> Result<(), NoMemory>
+    ensures { OnOk result (into.new.text ≡ into.old.text ++ read_fault_line) }
 {
     push_plain(into, b"fault|read\n")
 }
 
 /// Appends the line of an input that is too large.
-pub(crate) fn push_too_large(into: &mut Vec<u8>, limit: u64) -> Result<(), NoMemory>
-    ensures { OnOk result (into.new.items ≡ into.old.items ++ too_large_line limit) }
+pub(crate) fn push_too_large(into: &mut Draft, limit: u64) -> Result<(), NoMemory>
+    ensures { OnOk result (into.new.text ≡ into.old.text ++ too_large_line limit) }
 {
     push_plain(into, b"fault|input over ")?;
     push_number(into, limit)?;
@@ -59,8 +56,8 @@ pub(crate) fn push_too_large(into: &mut Vec<u8>, limit: u64) -> Result<(), NoMem
 }
 
 /// Appends the line of a file that has more columns than these.
-fn push_too_many_columns(into: &mut Vec<u8>, limit: u64) -> Result<(), NoMemory>
-    ensures { OnOk result (into.new.items ≡ into.old.items ++ too_many_columns_line limit) }
+fn push_too_many_columns(into: &mut Draft, limit: u64) -> Result<(), NoMemory>
+    ensures { OnOk result (into.new.text ≡ into.old.text ++ too_many_columns_line limit) }
 {
     push_plain(into, b"fault|more than ")?;
     push_number(into, limit)?;
@@ -68,8 +65,8 @@ fn push_too_many_columns(into: &mut Vec<u8>, limit: u64) -> Result<(), NoMemory>
 }
 
 /// Appends the line of a file without a column of that name.
-fn push_no_column(into: &mut Vec<u8>, name: &[u8]) -> Result<(), NoMemory>
-    ensures { OnOk result (into.new.items ≡ into.old.items ++ no_column_line name.now) }
+fn push_no_column(into: &mut Draft, name: &[u8]) -> Result<(), NoMemory>
+    ensures { OnOk result (into.new.text ≡ into.old.text ++ no_column_line name.now) }
 {
     push_plain(into, b"fault|no column ")?;
     push_shown(into, name)?;
@@ -77,8 +74,8 @@ fn push_no_column(into: &mut Vec<u8>, name: &[u8]) -> Result<(), NoMemory>
 }
 
 /// Appends the line of a file of that name that doesn't begin with the header of the first one.
-fn push_other_header(into: &mut Vec<u8>, file: &[u8]) -> Result<(), NoMemory>
-    ensures { OnOk result (into.new.items ≡ into.old.items ++ other_header_line file.now) }
+fn push_other_header(into: &mut Draft, file: &[u8]) -> Result<(), NoMemory>
+    ensures { OnOk result (into.new.text ≡ into.old.text ++ other_header_line file.now) }
 {
     push_plain(into, b"fault|other header in ")?;
     push_shown(into, file)?;
@@ -86,8 +83,8 @@ fn push_other_header(into: &mut Vec<u8>, file: &[u8]) -> Result<(), NoMemory>
 }
 
 /// Appends the line of words that don't fit the file.
-pub(crate) fn push_mismatch(into: &mut Vec<u8>, mismatch: &Mismatch) -> Result<(), NoMemory>
-    ensures { OnOk result (into.new.items ≡ into.old.items ++ mismatch_line mismatch.now) }
+pub(crate) fn push_mismatch(into: &mut Draft, mismatch: &Mismatch) -> Result<(), NoMemory>
+    ensures { OnOk result (into.new.text ≡ into.old.text ++ mismatch_line mismatch.now) }
 {
     match mismatch {
         Mismatch::NoColumn(name, _names) => push_no_column(into, name.as_slice()),
@@ -97,8 +94,8 @@ pub(crate) fn push_mismatch(into: &mut Vec<u8>, mismatch: &Mismatch) -> Result<(
 }
 
 /// Appends the line of a file that has more faults than a bound.
-pub(crate) fn push_too_many_faults(into: &mut Vec<u8>, bound: u64) -> Result<(), NoMemory>
-    ensures { OnOk result (into.new.items ≡ into.old.items ++ too_many_faults_line bound) }
+pub(crate) fn push_too_many_faults(into: &mut Draft, bound: u64) -> Result<(), NoMemory>
+    ensures { OnOk result (into.new.text ≡ into.old.text ++ too_many_faults_line bound) }
 {
     push_plain(into, b"fault|over ")?;
     push_number(into, bound)?;

@@ -7,6 +7,7 @@ ghost use Rattle.report_text.specs.Report.{found_lines};
 use crate::lines::{Part, push_line};
 use csv_sniffer::{Newline, Sniffed};
 use csv_source::NoMemory;
+use text_pieces::Draft;
 use value_types::{ColumnType, type_name};
 
 /// The text of a line end.
@@ -33,8 +34,8 @@ pub(crate) fn truth_text(truth: bool) -> &'static [u8]
 }
 
 /// Appends the line of the options.
-fn push_options(into: &mut Vec<u8>, sniffed: &Sniffed) -> Result<(), NoMemory>
-    ensures { OnOk result (into.new.items ≡ into.old.items ++ options_line sniffed.now) }
+fn push_options(into: &mut Draft, sniffed: &Sniffed) -> Result<(), NoMemory>
+    ensures { OnOk result (into.new.text ≡ into.old.text ++ options_line sniffed.now) }
 {
     push_line(
         into,
@@ -51,13 +52,8 @@ fn push_options(into: &mut Vec<u8>, sniffed: &Sniffed) -> Result<(), NoMemory>
 }
 
 /// Appends the line of a column.
-fn push_column(
-    into: &mut Vec<u8>,
-    column: usize,
-    ty: ColumnType,
-    name: &[u8],
-) -> Result<(), NoMemory>
-    ensures { OnOk result (into.new.items ≡ into.old.items ++ column_line column ty name.now) }
+fn push_column(into: &mut Draft, column: usize, ty: ColumnType, name: &[u8]) -> Result<(), NoMemory>
+    ensures { OnOk result (into.new.text ≡ into.old.text ++ column_line column ty name.now) }
 {
     push_line(
         into,
@@ -71,9 +67,9 @@ fn push_column(
 }
 
 /// Appends a line for each column.
-fn push_columns(into: &mut Vec<u8>, sniffed: &Sniffed) -> Result<(), NoMemory>
+fn push_columns(into: &mut Draft, sniffed: &Sniffed) -> Result<(), NoMemory>
     requires { length sniffed.now.names ≡ length sniffed.now.types }
-    ensures { OnOk result (into.new.items ≡ into.old.items ++ column_lines sniffed.now) }
+    ensures { OnOk result (into.new.text ≡ into.old.text ++ column_lines sniffed.now) }
 {
     for column in 0..sniffed.types.len() {
         let ty = sniffed.types.get(column);
@@ -84,9 +80,9 @@ fn push_columns(into: &mut Vec<u8>, sniffed: &Sniffed) -> Result<(), NoMemory>
 }
 
 /// Appends what was found.
-pub(crate) fn push_found(into: &mut Vec<u8>, sniffed: &Sniffed) -> Result<(), NoMemory>
+pub(crate) fn push_found(into: &mut Draft, sniffed: &Sniffed) -> Result<(), NoMemory>
     requires { length sniffed.now.names ≡ length sniffed.now.types }
-    ensures { OnOk result (into.new.items ≡ into.old.items ++ found_lines sniffed.now) }
+    ensures { OnOk result (into.new.text ≡ into.old.text ++ found_lines sniffed.now) }
 {
     push_options(into, sniffed)?;
     push_columns(into, sniffed)

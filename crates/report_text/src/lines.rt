@@ -9,6 +9,7 @@ ghost use Rattle.report_text.specs.Lines.{errors_line, rows_line, stats_line};
 use crate::Stats;
 use crate::shown::{push_shown, push_shown_option};
 use csv_source::NoMemory;
+use text_pieces::Draft;
 
 /// A part of a line.
 #[derive(Clone, Copy)]
@@ -26,24 +27,24 @@ pub(crate) enum Part<'a> {
 }
 
 /// Appends a number.
-pub(crate) fn push_number(into: &mut Vec<u8>, number: u64) -> Result<(), NoMemory>
-    ensures { OnOk result (into.new.items ≡ into.old.items ++ decimal number) }
+pub(crate) fn push_number(into: &mut Draft, number: u64) -> Result<(), NoMemory>
+    ensures { OnOk result (into.new.text ≡ into.old.text ++ decimal number) }
 {
-    into.extend_from_slice(itoa::Buffer::new().format(number).as_bytes())?;
+    into.append(itoa::Buffer::new().format(number).as_bytes())?;
     Ok(())
 }
 
 /// Appends bytes as they are.
-pub(crate) fn push_plain(into: &mut Vec<u8>, bytes: &[u8]) -> Result<(), NoMemory>
-    ensures { OnOk result (into.new.items ≡ into.old.items ++ bytes.now) }
+pub(crate) fn push_plain(into: &mut Draft, bytes: &[u8]) -> Result<(), NoMemory>
+    ensures { OnOk result (into.new.text ≡ into.old.text ++ bytes.now) }
 {
-    into.extend_from_slice(bytes)?;
+    into.append(bytes)?;
     Ok(())
 }
 
 /// Appends a part.
-fn push_part(into: &mut Vec<u8>, part: Part<'_>) -> Result<(), NoMemory>
-    ensures { OnOk result (into.new.items ≡ into.old.items ++ part_text part.entry) }
+fn push_part(into: &mut Draft, part: Part<'_>) -> Result<(), NoMemory>
+    ensures { OnOk result (into.new.text ≡ into.old.text ++ part_text part.entry) }
 {
     match part {
         Part::Plain(bytes) => push_plain(into, bytes),
@@ -67,10 +68,10 @@ fn push_part(into: &mut Vec<u8>, part: Part<'_>) -> Result<(), NoMemory>
 
 /// Appends a line: its name, the parts with a bar before each, and LF. The parts stand on the caller's stack, so that a
 /// call reads as its definition does, and no line takes memory of its own.
-pub(crate) fn push_line(into: &mut Vec<u8>, name: &[u8], parts: &[Part<'_>]) -> Result<(), NoMemory>
-    ensures { OnOk result (into.new.items ≡ into.old.items ++ line_of (name.now ∷ map part_text parts.now)) }
+pub(crate) fn push_line(into: &mut Draft, name: &[u8], parts: &[Part<'_>]) -> Result<(), NoMemory>
+    ensures { OnOk result (into.new.text ≡ into.old.text ++ line_of (name.now ∷ map part_text parts.now)) }
 {
-    into.extend_from_slice(name)?;
+    into.append(name)?;
     for part in parts {
         into.push(b'|')?;
         push_part(into, *part)?;
@@ -80,22 +81,22 @@ pub(crate) fn push_line(into: &mut Vec<u8>, name: &[u8], parts: &[Part<'_>]) -> 
 }
 
 /// Appends the line of how many rows there are.
-pub(crate) fn push_row_count(into: &mut Vec<u8>, rows: usize) -> Result<(), NoMemory>
-    ensures { OnOk result (into.new.items ≡ into.old.items ++ rows_line rows) }
+pub(crate) fn push_row_count(into: &mut Draft, rows: usize) -> Result<(), NoMemory>
+    ensures { OnOk result (into.new.text ≡ into.old.text ++ rows_line rows) }
 {
     push_line(into, b"rows", &[Part::Number(rows as u64)])
 }
 
 /// Appends the line of how many rejects are printed, and how many came.
-pub(crate) fn push_errors(into: &mut Vec<u8>, stored: u64, all: u64) -> Result<(), NoMemory>
-    ensures { OnOk result (into.new.items ≡ into.old.items ++ errors_line stored all) }
+pub(crate) fn push_errors(into: &mut Draft, stored: u64, all: u64) -> Result<(), NoMemory>
+    ensures { OnOk result (into.new.text ≡ into.old.text ++ errors_line stored all) }
 {
     push_line(into, b"errors", &[Part::Number(stored), Part::Number(all)])
 }
 
 /// Appends the line of the stats.
-fn push_stats(into: &mut Vec<u8>, stats: &Stats) -> Result<(), NoMemory>
-    ensures { OnOk result (into.new.items ≡ into.old.items ++ stats_line stats.now) }
+fn push_stats(into: &mut Draft, stats: &Stats) -> Result<(), NoMemory>
+    ensures { OnOk result (into.new.text ≡ into.old.text ++ stats_line stats.now) }
 {
     push_line(
         into,
@@ -109,8 +110,8 @@ fn push_stats(into: &mut Vec<u8>, stats: &Stats) -> Result<(), NoMemory>
 }
 
 /// Appends the line of the stats, where there are some.
-pub(crate) fn push_stats_of(into: &mut Vec<u8>, stats: &Option<Stats>) -> Result<(), NoMemory>
-    ensures { OnOk result (into.new.items ≡ into.old.items ++ option_map_or stats_line stats.now []) }
+pub(crate) fn push_stats_of(into: &mut Draft, stats: &Option<Stats>) -> Result<(), NoMemory>
+    ensures { OnOk result (into.new.text ≡ into.old.text ++ option_map_or stats_line stats.now []) }
 {
     match stats {
         Some(stats) => push_stats(into, stats),

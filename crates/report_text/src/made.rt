@@ -8,6 +8,7 @@ use crate::found::truth_text;
 use crate::lines::push_number;
 use csv_source::NoMemory;
 use std::alloc::Global;
+use text_pieces::Draft;
 
 /// The most bytes that a row takes: numbers of 7, 3 and 10 digits, `false`, a date, and 17 bytes beside them.
 const ROW_ROOM: usize = 52;
@@ -30,13 +31,13 @@ fn glyph(digit: u64) -> u8
 }
 
 /// Appends the day of a row's number.
-fn push_day(into: &mut Vec<u8>, x: u64) -> Result<(), NoMemory>
+fn push_day(into: &mut Draft, x: u64) -> Result<(), NoMemory>
     requires within { x < 2 ^ 32 }
-    ensures { OnOk result (into.new.items ≡ into.old.items ++ made_day x) }
+    ensures { OnOk result (into.new.text ≡ into.old.text ++ made_day x) }
 {
     let month = 1 + x / 2 % 12;
     let day = 1 + x / 32 % 28;
-    into.extend_from_slice(&[
+    into.append(&[
         b'2',
         b'0',
         b'0',
@@ -59,12 +60,12 @@ fn gap(row: u64) -> u8
 }
 
 /// Appends the note of a row, from its quote to its quote.
-fn push_note(into: &mut Vec<u8>, row: u64, x: u64) -> Result<(), NoMemory>
-    ensures { OnOk result (into.new.items ≡ into.old.items ++ made_note row x) }
+fn push_note(into: &mut Draft, row: u64, x: u64) -> Result<(), NoMemory>
+    ensures { OnOk result (into.new.text ≡ into.old.text ++ made_note row x) }
 {
-    into.extend_from_slice(b"\"note \"\"")?;
+    into.append(b"\"note \"\"")?;
     push_number(into, x % 1000)?;
-    into.extend_from_slice(b"\"\",")?;
+    into.append(b"\"\",")?;
     into.push(gap(row))?;
     push_number(into, x)?;
     into.push(b'"')?;
@@ -72,14 +73,14 @@ fn push_note(into: &mut Vec<u8>, row: u64, x: u64) -> Result<(), NoMemory>
 }
 
 /// Appends a row.
-fn push_row(into: &mut Vec<u8>, number: u32, row: u64) -> Result<(), NoMemory>
+fn push_row(into: &mut Draft, number: u32, row: u64) -> Result<(), NoMemory>
     requires within { row < ROW_LIMIT }
-    ensures { OnOk result (into.new.items ≡ into.old.items ++ made_row number row) }
+    ensures { OnOk result (into.new.text ≡ into.old.text ++ made_row number row) }
 {
     let x = row_number(number, row);
     push_number(into, row)?;
     into.push(b',')?;
-    into.extend_from_slice(truth_text(x % 2 == 1))?;
+    into.append(truth_text(x % 2 == 1))?;
     into.push(b',')?;
     push_day(into, x)?;
     into.push(b',')?;
@@ -94,11 +95,11 @@ pub fn make_text(alloc: Global, number: u32, rows: u64) -> Result<Vec<u8>, NoMem
     requires { rows ≤ ROW_LIMIT }
     ensures { IfOk result (λ text. text.items ≡ made_text number rows) }
 {
-    let mut text = Vec::new(alloc);
-    text.reserve(15 + rows as usize * ROW_ROOM)?;
-    text.extend_from_slice(b"id,ok,day,note\n")?;
+    let mut text = Draft::new(alloc);
+    text.reserve(15 + rows as usize * ROW_ROOM);
+    text.append(b"id,ok,day,note\n")?;
     for row in 0..rows {
         push_row(&mut text, number, row)?;
     }
-    Ok(text)
+    Ok(text.into_text())
 }

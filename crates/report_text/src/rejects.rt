@@ -9,15 +9,16 @@ use crate::lines::{Part, push_line};
 use csv_sniffer::Sniffed;
 use csv_source::NoMemory;
 use reject_book::{Book, Reject, kind_name};
+use text_pieces::Draft;
 
 /// Appends the line of the scan of a file, with its number.
 pub(crate) fn push_scan(
-    into: &mut Vec<u8>,
+    into: &mut Draft,
     sniffed: &Sniffed,
     file_id: u64,
     file: &[u8],
 ) -> Result<(), NoMemory>
-    ensures { OnOk result (into.new.items ≡ into.old.items ++ scan_line sniffed.now file_id file.now) }
+    ensures { OnOk result (into.new.text ≡ into.old.text ++ scan_line sniffed.now file_id file.now) }
 {
     push_line(
         into,
@@ -38,8 +39,8 @@ pub(crate) fn push_scan(
 }
 
 /// Appends the line of a reject.
-pub(crate) fn push_reject(into: &mut Vec<u8>, reject: &Reject) -> Result<(), NoMemory>
-    ensures { OnOk result (into.new.items ≡ into.old.items ++ error_line reject.now) }
+pub(crate) fn push_reject(into: &mut Draft, reject: &Reject) -> Result<(), NoMemory>
+    ensures { OnOk result (into.new.text ≡ into.old.text ++ error_line reject.now) }
 {
     push_line(
         into,
@@ -60,8 +61,8 @@ pub(crate) fn push_reject(into: &mut Vec<u8>, reject: &Reject) -> Result<(), NoM
 }
 
 /// Appends the lines of the stored rejects.
-pub(crate) fn push_stored(into: &mut Vec<u8>, book: &Book) -> Result<(), NoMemory>
-    ensures { OnOk result (into.new.items ≡ into.old.items ++ flat_map error_line book.now.stored) }
+pub(crate) fn push_stored(into: &mut Draft, book: &Book) -> Result<(), NoMemory>
+    ensures { OnOk result (into.new.text ≡ into.old.text ++ flat_map error_line book.now.stored) }
 {
     for index in 0..book.len() {
         push_reject(into, book.get(index))?;
@@ -70,8 +71,8 @@ pub(crate) fn push_stored(into: &mut Vec<u8>, book: &Book) -> Result<(), NoMemor
 }
 
 /// Appends the scan and the stored rejects, where they are stored.
-pub(crate) fn push_rejects(into: &mut Vec<u8>, loaded: &Loaded) -> Result<(), NoMemory>
-    ensures { OnOk result (into.new.items ≡ into.old.items ++ reject_lines loaded.now) }
+pub(crate) fn push_rejects(into: &mut Draft, loaded: &Loaded) -> Result<(), NoMemory>
+    ensures { OnOk result (into.new.text ≡ into.old.text ++ reject_lines loaded.now) }
 {
     if !loaded.store {
         return Ok(());

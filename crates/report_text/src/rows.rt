@@ -8,7 +8,8 @@ ghost use Rattle.report_text.specs.PrintableRows.{IsPrintableRow};
 use crate::shown::push_shown;
 use column_store::{Chunk, Table};
 use csv_source::NoMemory;
-use value_types::{Cell, Value, write_value};
+use text_pieces::{CELL_ROOM, Draft};
+use value_types::Cell;
 
 /// About how many bytes so many rows take, by 16 bytes a cell.
 pub(crate) fn rows_room(rows: usize, columns: usize) -> usize {
@@ -17,29 +18,34 @@ pub(crate) fn rows_room(rows: usize, columns: usize) -> usize {
 
 /// Appends a cell.
 #[inline(always)]
-fn push_cell(into: &mut Vec<u8>, cell: Cell<'_>) -> Result<(), NoMemory>
-    requires { IsSpelledCell (datum_of cell) }
-    ensures { OnOk result (into.new.items ≡ into.old.items ++ cell_text (datum_of cell.entry)) }
+fn push_cell(into: &mut Draft, cell: Cell<'_>) -> Result<(), NoMemory>
+    requires spelled { IsSpelledCell (datum_of cell) }
+    requires room { 32 ≤ into.old.room }
+    ensures { OnOk result (into.new.text ≡ into.old.text ++ cell_text (datum_of cell.entry)) }
 {
     match cell {
         Cell::Null => {
-            into.extend_from_slice(b"\\N")?;
+            into.append(b"\\N")?;
             Ok(())
         }
-        Cell::Value(value) => write_value(&value, into),
+        Cell::Value(value) => {
+            into.put_value(&value);
+            Ok(())
+        }
         Cell::Text(text) => push_shown(into, text),
     }
 }
 
 /// Appends the line of a row.
-fn push_row(into: &mut Vec<u8>, chunk: &Chunk, row: usize) -> Result<(), NoMemory>
+fn push_row(into: &mut Draft, chunk: &Chunk, row: usize) -> Result<(), NoMemory>
     requires within { row < length chunk.now.rows }
     requires fits { IsPrintableRow chunk.now.types (slice_index_or chunk.now.rows row []) }
-    ensures { OnOk result (into.new.items ≡ into.old.items ++ row_line (slice_index_or chunk.now.rows row [])) }
+    ensures { OnOk result (into.new.text ≡ into.old.text ++ row_line (slice_index_or chunk.now.rows row [])) }
 {
-    into.extend_from_slice(b"row")?;
+    into.append(b"row")?;
     for column in 0..chunk.columns() {
-        into.push(b'|')?;
+        into.make_room(CELL_ROOM)?;
+        into.put(b'|');
         push_cell(into, chunk.cell_at(column, row))?;
     }
     into.push(b'\n')?;
@@ -47,15 +53,15 @@ fn push_row(into: &mut Vec<u8>, chunk: &Chunk, row: usize) -> Result<(), NoMemor
 }
 
 /// Appends the lines of those rows from `from` to before `to` that a chunk has.
-fn push_part(into: &mut Vec<u8>, chunk: &Chunk, from: usize, to: usize) -> Result<(), NoMemory>
+fn push_part(into: &mut Draft, chunk: &Chunk, from: usize, to: usize) -> Result<(), NoMemory>
     requires ordered { from ≤ to }
     requires fits { All (IsPrintableRow chunk.now.types) chunk.now.rows }
-    ensures { OnOk result (into.new.items ≡ into.old.items ++ flat_map row_line (slice_range chunk.now.rows from to)) }
+    ensures { OnOk result (into.new.text ≡ into.old.text ++ flat_map row_line (slice_range chunk.now.rows from to)) }
 {
     let rows = chunk.rows();
     let first = from.min(rows);
     for row in first..to.min(rows) {
-        chunk.make_room(into, row);
+        into.reserve(chunk.coming_room(row));
         push_row(into, chunk, row)?;
     }
     Ok(())
@@ -63,14 +69,14 @@ fn push_part(into: &mut Vec<u8>, chunk: &Chunk, from: usize, to: usize) -> Resul
 
 /// Appends the lines of the rows from `from` to before `to`, chunk by chunk.
 pub(crate) fn push_rows(
-    into: &mut Vec<u8>,
+    into: &mut Draft,
     table: &Table,
     from: usize,
     to: usize,
 ) -> Result<(), NoMemory>
     requires ordered { from ≤ to }
     requires fits { All (IsPrintableRow table.now.types) table.now.rows }
-    ensures { OnOk result (into.new.items ≡ into.old.items ++ flat_map row_line (slice_range table.now.rows from to)) }
+    ensures { OnOk result (into.new.text ≡ into.old.text ++ flat_map row_line (slice_range table.now.rows from to)) }
 {
     let (earlier, last) = table.chunks();
     let mut low = from;

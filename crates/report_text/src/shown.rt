@@ -6,7 +6,7 @@ ghost use Rattle.report_text.specs.Moves.{HasShown};
 
 use crate::runs::run_end;
 use csv_source::NoMemory;
-use text_pieces::append_run;
+use text_pieces::Draft;
 
 /// The byte of a hexadecimal digit.
 fn hex_digit(value: u8) -> u8
@@ -21,25 +21,25 @@ fn hex_digit(value: u8) -> u8
 }
 
 /// Appends the two hexadecimal digits of a byte.
-fn push_hex(into: &mut Vec<u8>, byte: u8) -> Result<(), NoMemory>
-    ensures { OnOk result (into.new.items ≡ into.old.items ++ hex_digits byte) }
+fn push_hex(into: &mut Draft, byte: u8) -> Result<(), NoMemory>
+    ensures { OnOk result (into.new.text ≡ into.old.text ++ hex_digits byte) }
 {
-    into.extend_from_slice(&[hex_digit(byte / 16), hex_digit(byte % 16)])?;
+    into.append(&[hex_digit(byte / 16), hex_digit(byte % 16)])?;
     Ok(())
 }
 
 /// Appends a byte as it is shown.
-pub(crate) fn push_shown_byte(into: &mut Vec<u8>, byte: u8) -> Result<(), NoMemory>
-    ensures { OnOk result (into.new.items ≡ into.old.items ++ shown_byte byte) }
+pub(crate) fn push_shown_byte(into: &mut Draft, byte: u8) -> Result<(), NoMemory>
+    ensures { OnOk result (into.new.text ≡ into.old.text ++ shown_byte byte) }
 {
     match byte {
-        b'\\' => into.extend_from_slice(b"\\\\")?,
-        b'|' => into.extend_from_slice(b"\\|")?,
-        b'\n' => into.extend_from_slice(b"\\n")?,
-        b'\r' => into.extend_from_slice(b"\\r")?,
-        b'\t' => into.extend_from_slice(b"\\t")?,
+        b'\\' => into.append(b"\\\\")?,
+        b'|' => into.append(b"\\|")?,
+        b'\n' => into.append(b"\\n")?,
+        b'\r' => into.append(b"\\r")?,
+        b'\t' => into.append(b"\\t")?,
         0..=31 | 127 => {
-            into.extend_from_slice(b"\\x")?;
+            into.append(b"\\x")?;
             push_hex(into, byte)?;
         }
         _ => into.push(byte)?,
@@ -49,12 +49,12 @@ pub(crate) fn push_shown_byte(into: &mut Vec<u8>, byte: u8) -> Result<(), NoMemo
 
 /// Appends the bytes from `at` on up to the first that is spelled, and that one; answers the place behind it.
 #[inline(always)]
-fn push_stretch(into: &mut Vec<u8>, bytes: &[u8], at: usize) -> Result<usize, NoMemory>
+fn push_stretch(into: &mut Draft, bytes: &[u8], at: usize) -> Result<usize, NoMemory>
     requires within { at < length bytes.now }
-    ensures ok { IfOk result (λ next. HasShown into.old.items into.new.items bytes.now at next) }
+    ensures ok { IfOk result (λ next. HasShown into.old.text into.new.text bytes.now at next) }
 {
     let end = run_end(bytes, at);
-    append_run(into, bytes, at, end)?;
+    into.append_run(bytes, at, end)?;
     if end == bytes.len() {
         return Ok(end);
     }
@@ -63,8 +63,8 @@ fn push_stretch(into: &mut Vec<u8>, bytes: &[u8], at: usize) -> Result<usize, No
 }
 
 /// Appends bytes as they are shown, runs of ordinary bytes whole: few bytes of a report are spelled.
-pub(crate) fn push_shown(into: &mut Vec<u8>, bytes: &[u8]) -> Result<(), NoMemory>
-    ensures { OnOk result (into.new.items ≡ into.old.items ++ shown bytes.now) }
+pub(crate) fn push_shown(into: &mut Draft, bytes: &[u8]) -> Result<(), NoMemory>
+    ensures { OnOk result (into.new.text ≡ into.old.text ++ shown bytes.now) }
 {
     let mut at = 0;
     while at < bytes.len() {
@@ -74,8 +74,8 @@ pub(crate) fn push_shown(into: &mut Vec<u8>, bytes: &[u8]) -> Result<(), NoMemor
 }
 
 /// Appends an optional byte as it is shown, nothing where there is none.
-pub(crate) fn push_shown_option(into: &mut Vec<u8>, byte: Option<u8>) -> Result<(), NoMemory>
-    ensures { OnOk result (into.new.items ≡ into.old.items ++ shown_option byte) }
+pub(crate) fn push_shown_option(into: &mut Draft, byte: Option<u8>) -> Result<(), NoMemory>
+    ensures { OnOk result (into.new.text ≡ into.old.text ++ shown_option byte) }
 {
     match byte {
         Some(byte) => push_shown_byte(into, byte),

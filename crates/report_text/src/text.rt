@@ -21,16 +21,16 @@ use csv_source::NoMemory;
 use reject_book::Reject;
 use std::alloc::Global;
 use std::thread::Threads;
-use text_pieces::Pieces;
+use text_pieces::{Draft, Pieces};
 
 /// Appends what stands behind the lines on the rows.
-fn push_closing(into: &mut Vec<u8>, loaded: &Loaded, further: &[u8]) -> Result<(), NoMemory>
-    ensures { OnOk result (into.new.items ≡ into.old.items ++ closing_lines loaded.now further.now) }
+fn push_closing(into: &mut Draft, loaded: &Loaded, further: &[u8]) -> Result<(), NoMemory>
+    ensures { OnOk result (into.new.text ≡ into.old.text ++ closing_lines loaded.now further.now) }
 {
     push_row_count(into, loaded.table.rows())?;
     push_rejects(into, loaded)?;
     push_errors(into, stored_count(loaded) as u64, loaded.book.all())?;
-    into.extend_from_slice(further)?;
+    into.append(further)?;
     push_stats_of(into, &loaded.stats)
 }
 
@@ -43,28 +43,28 @@ fn push_loaded<R: Threads + Sync>(
     requires { IsPrintableLoad loaded.now }
     ensures { OnOk result (into.new ≡ into.old ++ loaded_lines loaded.now (flat_map row_line loaded.now.table.rows) []) }
 {
-    let mut head = Vec::new(workers.alloc);
+    let mut head = Draft::new(workers.alloc);
     push_found(&mut head, &loaded.sniffed)?;
-    into.push(head)?;
+    into.push(head.into_text())?;
     push_table(workers, into, &loaded.table)?;
-    let mut tail = Vec::new(workers.alloc);
+    let mut tail = Draft::new(workers.alloc);
     push_closing(&mut tail, loaded, &[])?;
-    into.push(tail)
+    into.push(tail.into_text())
 }
 
 /// Appends a loaded file with the lines of taps in place of its rows.
-fn push_summary(into: &mut Vec<u8>, loaded: &Loaded, taps: &[u8]) -> Result<(), NoMemory>
+fn push_summary(into: &mut Draft, loaded: &Loaded, taps: &[u8]) -> Result<(), NoMemory>
     requires { IsPrintableLoad loaded.now }
-    ensures { OnOk result (into.new.items ≡ into.old.items ++ loaded_lines loaded.now [] taps.now) }
+    ensures { OnOk result (into.new.text ≡ into.old.text ++ loaded_lines loaded.now [] taps.now) }
 {
     push_found(into, &loaded.sniffed)?;
     push_closing(into, loaded, taps)
 }
 
 /// Appends what was found, and the first error.
-fn push_first_error(into: &mut Vec<u8>, sniffed: &Sniffed, reject: &Reject) -> Result<(), NoMemory>
+fn push_first_error(into: &mut Draft, sniffed: &Sniffed, reject: &Reject) -> Result<(), NoMemory>
     requires { length sniffed.now.names ≡ length sniffed.now.types }
-    ensures { OnOk result (into.new.items ≡ into.old.items ++ (found_lines sniffed.now ++ error_line reject.now)) }
+    ensures { OnOk result (into.new.text ≡ into.old.text ++ (found_lines sniffed.now ++ error_line reject.now)) }
 {
     push_found(into, sniffed)?;
     push_reject(into, reject)
@@ -72,23 +72,23 @@ fn push_first_error(into: &mut Vec<u8>, sniffed: &Sniffed, reject: &Reject) -> R
 
 /// Appends what was found, and why.
 fn push_explained(
-    into: &mut Vec<u8>,
+    into: &mut Draft,
     alloc: Global,
     sniffed: &Sniffed,
     explanation: &Explanation,
 ) -> Result<(), NoMemory>
     requires { length sniffed.now.names ≡ length sniffed.now.types }
-    ensures { OnOk result (into.new.items ≡ into.old.items ++ (found_lines sniffed.now ++ explanation_lines sniffed.now explanation.now)) }
+    ensures { OnOk result (into.new.text ≡ into.old.text ++ (found_lines sniffed.now ++ explanation_lines sniffed.now explanation.now)) }
 {
     push_found(into, sniffed)?;
     push_explanation(into, alloc, sniffed, explanation)
 }
 
 /// Appends the text of a report that has no rows.
-fn push_short(into: &mut Vec<u8>, alloc: Global, outcome: &Outcome) -> Result<(), NoMemory>
+fn push_short(into: &mut Draft, alloc: Global, outcome: &Outcome) -> Result<(), NoMemory>
     requires printable { IsPrintable outcome.now }
     requires short { has_rows outcome.now ≡ false }
-    ensures { OnOk result (into.new.items ≡ into.old.items ++ report_of outcome.now) }
+    ensures { OnOk result (into.new.text ≡ into.old.text ++ report_of outcome.now) }
 {
     match outcome {
         Outcome::Refused(fault, word) => push_refused(into, fault, word.as_slice()),
@@ -130,9 +130,9 @@ pub fn render<R: Threads + Sync>(
             push_batch(&workers, &mut text, &report)?;
         }
         _ => {
-            let mut short = Vec::new(alloc);
+            let mut short = Draft::new(alloc);
             push_short(&mut short, alloc, outcome)?;
-            text.push(short)?;
+            text.push(short.into_text())?;
         }
     }
     Ok(text)

@@ -4,10 +4,12 @@
 //! It serves the crates above alone.
 #![tactic(auto)]
 
+mod draft;
 mod pieces;
 mod runs;
 mod shares;
 
+pub use draft::{CELL_ROOM, Draft};
 pub use pieces::Pieces;
-pub use runs::{append_run, run_behind};
+pub use runs::run_behind;
 pub use shares::{Share, cut_shares, push_shares};

@@ -1,5 +1,5 @@
 // Room for the text of a row that is to be written.
-ghost use Rattle.std.specs.Prelude.{◌≡◌, ◌<◌, length};
+ghost use Rattle.std.specs.Prelude.{◌<◌, length};
 
 use crate::chunk::Chunk;
 use value_types::{Cell, Value};
@@ -42,17 +42,16 @@ impl Chunk {
         room
     }
 
-    /// Makes room in a text for a row to come, once for as many rows as have numbers in one line of the cache. To ask what it
-    /// takes fetches the lines that all of them reach into, before the first is written.
+    /// About how many bytes the text of a row to come takes, once for as many rows as have numbers in one line of the cache, and
+    /// else none. To ask it fetches the lines that all of them reach into, before the first is written.
     #[inline(always)]
-    pub fn make_room(&self, into: &mut Vec<u8>, row: usize)
+    pub fn coming_room(&self, row: usize) -> usize
         requires { row < length self.now.rows }
-        ensures { into.new.items ≡ into.old.items }
     {
         if self.columns() >= MANY && row % LINE == 0 {
             let last = row.saturating_add(LINE - 1).min(self.rows() - 1);
-            // Where so much can't be had at once, the text may still grow into less.
-            let _ = into.reserve(self.row_room(last));
+            return self.row_room(last);
         }
+        0
     }
 }

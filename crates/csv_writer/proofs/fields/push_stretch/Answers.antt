@@ -12,7 +12,7 @@ returns-then-end-text-clause-ok c =
     record {
       on = omega (arith, c.requires.within, c.if-end-text.true);
       within = c.quote_place-end.ensures.within;
-      same = run_doubled c.args.into.now.items c.append_run.new.into.items text at end (end - at) (omega (arith, c.quote_place-end.ensures.value)) (omega (arith, c.quote_place-end.ensures.value)) c.in_ok-append_run.ensures.ok;
+      same = run_doubled c.args.into.now.text c.append_run.new.self.text text at end (end - at) (omega (arith, c.quote_place-end.ensures.value)) (omega (arith, c.quote_place-end.ensures.value)) c.in_ok-append_run.ensures.ok;
       behind = (slice_range text at end, c.in_ok-append_run.ensures.ok);
     }
 
@@ -21,9 +21,9 @@ returns-clause-ok c =
     let at = c.args.at in
     let end = c.quote_place-end.result in
     let text = c.args.text.now in
-    let old = c.args.into.now.items in
-    let new = c.append_run.new.into.items in
-    let newer = c.append.new.into.items in
+    let old = c.args.into.now.text in
+    let new = c.append_run.new.self.text in
+    let newer = c.append.new.self.text in
     record {
       on = omega (arith, c.quote_place-end.ensures.value);
       within = omega (arith, c.quote_place-end.ensures.within, c.if-end-text.false);

@@ -13,5 +13,5 @@ loop-column-preserved c =
     let k = c.loop-column.column in
     let nothing : Field = Text (record { ref_ptr = (0, 0); now = [] }) in
     let field : Field = slice_index_or fields k nothing in
-    field_appended written_field fields k field c.args.into.now.items c.loop-column.into.items c.push_comma.new.into.items c.push_field.new.into.items
+    field_appended written_field fields k field c.args.into.now.text c.loop-column.into.text c.push_comma.new.into.text c.push_field.new.into.text
     (slice_get-get_or fields k nothing (omega (arith, c.loop-column-test.true))) c.loop-column.invariant c.in_ok-push_comma.ensures.ok c.in_ok-push_field.ensures

@@ -4,4 +4,4 @@ use Rattle.reject_writer.specs.WrittenField.{written_field}
 use Rattle.reject_writer.proofs.fields.push_line.Given as goal
 
 abbrev pub invariant-loop-column : goal.invariant-loop-column
-invariant-loop-column l = l.into.items ≡ l.fn.into.items ++ join_with_byte 44 (map written_field (take l.column l.fields))
+invariant-loop-column l = l.into.text ≡ l.fn.into.text ++ join_with_byte 44 (map written_field (take l.column l.fields))

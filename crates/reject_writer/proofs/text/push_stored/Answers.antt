@@ -12,7 +12,7 @@ one_more (x ∷ rejects) (suc k) r at =
 
 pub loop-index-preserved : goal.loop-index-preserved
 loop-index-preserved c =
-    let before : List ℕ = c.args.into.now.items in
+    let before : List ℕ = c.args.into.now.text in
     let rejects : List Reject = c.args.book.now.stored in
     let k : ℕ = c.loop-index.index in
     let one : suc k ≡ k + 1 = omega arith in

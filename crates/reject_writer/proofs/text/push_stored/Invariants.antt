@@ -4,4 +4,4 @@ use Rattle.reject_writer.specs.WrittenRejects.{reject_line}
 use Rattle.reject_writer.proofs.text.push_stored.Given as goal
 
 abbrev pub invariant-loop-index : goal.invariant-loop-index
-invariant-loop-index l = l.into.items ≡ l.fn.into.items ++ flat_map reject_line (take l.index l.book.stored)
+invariant-loop-index l = l.into.text ≡ l.fn.into.text ++ flat_map reject_line (take l.index l.book.stored)

@@ -24,11 +24,11 @@ returns g c =
     let found : List ℕ = found_lines s in
     let rows : List ℕ = flat_map row_line batch.rows in
     let closing : List ℕ = batch_closing s batch c.args.report.now.store c.args.report.now.stats.now in
-    let tail : List ℕ = c.push_batch_closing.new.into.items in
+    let tail : List ℕ = c.into_text-2.result.items in
     let t1 : List ℕ = c.push.new.self in
     let t2 : List ℕ = c.push_table.new.into in
-    let head_is : c.push_found.new.into.items ≡ found = c.in_ok-push_found.ensures ∙ ap (λ xs. xs ++ found) c.new-head.ensures.items in
-    let tail_is : tail ≡ closing = c.in_ok-push_batch_closing.ensures ∙ ap (λ xs. xs ++ closing) c.new-tail.ensures.items in
+    let head_is : c.into_text.result.items ≡ found = c.into_text.ensures ∙ c.in_ok-push_found.ensures ∙ ap (λ xs. xs ++ found) c.new-head.ensures in
+    let tail_is : tail ≡ closing = c.into_text-2.ensures ∙ c.in_ok-push_batch_closing.ensures ∙ ap (λ xs. xs ++ closing) c.new-tail.ensures in
     let p1 : t1 ≡ before ++ found = c.in_ok-push.ensures ∙ ap (λ xs. before ++ xs) head_is in
     let p2 : t2 ≡ before ++ (found ++ rows) = grown before found rows t1 t2 p1 (c.in_ok-push_table.ensures ∙ ap (λ rs. t1 ++ flat_map row_line rs) c.table.ensures.rows) in
     IfOk-equal c.push-2.result _ _ _ c.push-2.ensures (ends_with before (found ++ rows) t2 tail closing p2 tail_is)

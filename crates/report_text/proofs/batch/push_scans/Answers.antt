@@ -7,5 +7,5 @@ pub loop-index-preserved : goal.loop-index-preserved
 loop-index-preserved c =
     let s = c.args.sniffed.now in
     let files = c.args.batch.now.files in
-    scans_on files c.loop-index.index c.file.result.now c.book.result.now c.file.ensures c.book.ensures s (c.args.into.now.items ++ scans_from s 0 files)
-    c.loop-index.into.items c.push_scan.new.into.items c.push_stored.new.into.items c.loop-index.invariant c.in_ok-push_scan.ensures c.in_ok-push_stored.ensures
+    scans_on files c.loop-index.index c.file.result.now c.book.result.now c.file.ensures c.book.ensures s (c.args.into.now.text ++ scans_from s 0 files)
+    c.loop-index.into.text c.push_scan.new.into.text c.push_stored.new.into.text c.loop-index.invariant c.in_ok-push_scan.ensures c.in_ok-push_stored.ensures

@@ -9,7 +9,7 @@ pub returns : goal.returns
 returns c =
     let candidate = c.args.candidate.now in
     IfOk-equal c.push_line.result _ _ _ c.push_line.ensures
-    (λ i. c.args.into.now.items ++ line_of
+    (λ i. c.args.into.now.text ++ line_of
     (codes "candidate"
     ∷ decimal candidate.place
     ∷ shown_option (Some (c.delim.ensures i))

@@ -6,7 +6,7 @@ use Rattle.report_text.proofs.explained.push_explanation.Goals as goal
 
 pub returns : goal.returns
 returns c =
-    let before : List ℕ = c.args.into.now.items in
+    let before : List ℕ = c.args.into.now.text in
     let e = c.args.explanation.now in
     let first : List ℕ = flat_map candidate_line e.candidates in
     let second : List ℕ = words_line e.fixes_types c.args.sniffed.now in

@@ -5,7 +5,7 @@ use Rattle.report_text.proofs.explained.push_varchar_word.Goals as goal
 
 pub returns : goal.returns
 returns c =
-    let before : List ℕ = c.args.into.now.items in
+    let before : List ℕ = c.args.into.now.text in
     let front : List ℕ = codes "column_types=" in
     let name : List ℕ = shown c.args.name.now in
     let behind : List ℕ = codes ":VARCHAR" in

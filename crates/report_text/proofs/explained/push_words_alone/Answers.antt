@@ -7,7 +7,7 @@ use Rattle.report_text.proofs.explained.push_words_alone.Goals as goal
 pub returns : goal.returns
 returns c =
     IfOk-equal c.push_line.result _ _ _ c.push_line.ensures
-    (λ i. c.args.into.now.items ++ line_of
+    (λ i. c.args.into.now.text ++ line_of
     (codes "words"
     ∷ (codes "delim=" ++ shown_option (Some (c.delim.ensures i)))
     ∷ (codes "quote=" ++ shown_option (c.quote.ensures.value i))

@@ -5,7 +5,7 @@ use Rattle.report_text.proofs.faults.push_other_header.Goals as goal
 
 pub returns : goal.returns
 returns c =
-    let before : List ℕ = c.args.into.now.items in
+    let before : List ℕ = c.args.into.now.text in
     let name : List ℕ = shown c.args.file.now in
     let front : List ℕ = codes "fault|other header in " in
     on_ok_weaker c.push_plain-2.result

@@ -5,7 +5,7 @@ use Rattle.report_text.proofs.faults.push_too_many_faults.Goals as goal
 
 pub returns : goal.returns
 returns c =
-    let before : List ℕ = c.args.into.now.items in
+    let before : List ℕ = c.args.into.now.text in
     let number : List ℕ = decimal c.args.bound in
     let front : List ℕ = codes "fault|over " in
     let behind : List ℕ = codes " faults" in

@@ -16,7 +16,7 @@ loop-column-preserved c =
     let types = c.args.sniffed.now.types in
     let names = c.args.sniffed.now.names in
     let rest = column_lines_from (k + 1) (drop (k + 1) types) (drop (k + 1) names) in
-    let before = c.loop-column.into.items in
+    let before = c.loop-column.into.text in
     ap (λ xs. xs ++ rest) c.in_ok-push_column.ensures ∙ append_assoc before _ rest
     ∙ ap (λ xs. before ++ xs) (sym (one_more types names k c.get-ty.result c.get-name.result.now c.get-ty.ensures c.get-name.ensures))
     ∙ c.loop-column.invariant

@@ -7,10 +7,10 @@ use Rattle.report_text.proofs.lines.push_line.Goals as goal
 
 pub returns : goal.returns
 returns c =
-    let before : List ℕ = c.args.into.now.items in
+    let before : List ℕ = c.args.into.now.text in
     let name : List ℕ = c.args.name.now in
     let parts = c.args.parts.now in
-    c.in_ok-push-2.ensures.items
+    c.in_ok-push-2.ensures.ok
     ∙ ap (λ xs. xs ++ 10 ∷ [])
     (c.loop-part.invariant ∙ ap (λ ps. before ++ (name ++ flat_map (λ part. 124 ∷ part_text part) ps)) (take_all c.loop-part.part-index parts (omega arith))
     ∙ ap (λ xs. before ++ xs) (sym (join-flat_map 124 part_text name parts)))

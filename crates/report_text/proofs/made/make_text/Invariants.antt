@@ -5,4 +5,4 @@ use Rattle.report_text.specs.MadeText.{made_row}
 use Rattle.report_text.proofs.made.make_text.Given as goal
 
 abbrev pub invariant-loop-row : goal.invariant-loop-row
-invariant-loop-row l = l.text.items ≡ codes "id,ok,day,note\n" ++ flat_map (made_row l.number) (range_with_len 0 l.row)
+invariant-loop-row l = l.text.text ≡ codes "id,ok,day,note\n" ++ flat_map (made_row l.number) (range_with_len 0 l.row)

@@ -5,6 +5,6 @@ use Rattle.report_text.proofs.made.push_day.Goals as goal
 pub returns : goal.returns
 returns c =
     let x = c.args.x in
-    c.in_ok-extend_from_slice.ensures.items
-    ∙ ap (λ xs. c.args.into.now.items ++ xs)
+    c.in_ok-append.ensures.ok
+    ∙ ap (λ xs. c.args.into.now.text ++ xs)
     (day_text (1 + x / 2 % 12) (1 + x / 32 % 28) _ _ _ _ (omega arith) (omega arith) c.glyph.ensures c.glyph-2.ensures c.glyph-3.ensures c.glyph-4.ensures)

@@ -4,4 +4,4 @@ use Rattle.report_text.specs.Lines.{error_line}
 use Rattle.report_text.proofs.rejects.push_stored.Given as goal
 
 abbrev pub invariant-loop-index : goal.invariant-loop-index
-invariant-loop-index l = l.into.items ≡ l.fn.into.items ++ flat_map error_line (take l.index l.book.stored)
+invariant-loop-index l = l.into.text ≡ l.fn.into.text ++ flat_map error_line (take l.index l.book.stored)

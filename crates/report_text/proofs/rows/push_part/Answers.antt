@@ -7,12 +7,12 @@ use Rattle.report_text.proofs.rows.push_part.Goals as goal
 
 pub loop-row-preserved : goal.loop-row-preserved
 loop-row-preserved c =
-    line_appended c.args.chunk.now.rows c.min-first.result c.loop-row.row c.args.into.now.items c.make_room.new.into.items c.push_row.new.into.items
-    (omega arith) (omega arith) (c.make_room.ensures ∙ c.loop-row.invariant) c.in_ok-push_row.ensures
+    line_appended c.args.chunk.now.rows c.min-first.result c.loop-row.row c.args.into.now.text c.reserve.new.self.text c.push_row.new.into.text
+    (omega arith) (omega arith) (c.reserve.ensures ∙ c.loop-row.invariant) c.in_ok-push_row.ensures
 
 pub returns : goal.returns
 returns c =
     let rows = c.args.chunk.now.rows in
     c.loop-row.invariant
-    ∙ ap (λ rs. c.args.into.now.items ++ flat_map row_line rs)
+    ∙ ap (λ rs. c.args.into.now.text ++ flat_map row_line rs)
     (range-cut rows c.args.from c.args.to c.min-first.result c.loop-row.row c.requires.ordered (omega arith) (omega arith))

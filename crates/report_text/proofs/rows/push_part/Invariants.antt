@@ -4,4 +4,4 @@ use Rattle.report_text.specs.Lines.{row_line}
 use Rattle.report_text.proofs.rows.push_part.Given as goal
 
 abbrev pub invariant-loop-row : goal.invariant-loop-row
-invariant-loop-row l = l.into.items ≡ l.fn.into.items ++ flat_map row_line (slice_range l.chunk.rows l.first l.row)
+invariant-loop-row l = l.into.text ≡ l.fn.into.text ++ flat_map row_line (slice_range l.chunk.rows l.first l.row)

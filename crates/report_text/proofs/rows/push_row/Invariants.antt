@@ -5,4 +5,4 @@ use Rattle.report_text.proofs.rows.push_row.Given as goal
 
 abbrev pub invariant-loop-column : goal.invariant-loop-column
 invariant-loop-column l =
-    l.into.items ≡ l.fn.into.items ++ (codes "row" ++ flat_map (λ cell. 124 ∷ cell_text cell) (take l.column (slice_index_or l.chunk.rows l.row [])))
+    l.into.text ≡ l.fn.into.text ++ (codes "row" ++ flat_map (λ cell. 124 ∷ cell_text cell) (take l.column (slice_index_or l.chunk.rows l.row [])))

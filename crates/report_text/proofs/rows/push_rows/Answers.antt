@@ -24,7 +24,7 @@ loop-chunk-preserved c =
     let chunk : ChunkView = c.chunk-item.result in
     let last : List (List Datum) = c.chunks.result.1.now.rows in
     let rest : List (List Datum) = rows_in (drop (at + 1) chunks) ++ last in
-    let into : List ℕ = c.loop-chunk.into.items in
+    let into : List ℕ = c.loop-chunk.into.text in
     let one : suc at ≡ at + 1 = omega arith in
     let left : rows_in (drop at chunks) ++ last ≡ chunk.rows ++ rest =
     ap (λ cs. rows_in cs ++ last) (drop-cons chunks at chunk c.loop-chunk-test.true ∙ ap (λ x. x ∷ drop (suc at) chunks) (sym c.chunk-item.is) ∙ ap (λ n. chunk ∷ drop n chunks) one)
@@ -32,7 +32,7 @@ loop-chunk-preserved c =
     record {
       ordered = omega (arith, c.saturating_sub-low.ensures, c.saturating_sub-high.ensures, c.rows.ensures, c.rows-in-loop-chunk.ensures, c.loop-chunk.invariant.ordered);
       text =
-          part_appended chunk.rows rest c.loop-chunk.low c.loop-chunk.high c.saturating_sub-low.result c.saturating_sub-high.result into c.push_part.new.into.items c.loop-chunk.invariant.ordered
+          part_appended chunk.rows rest c.loop-chunk.low c.loop-chunk.high c.saturating_sub-low.result c.saturating_sub-high.result into c.push_part.new.into.text c.loop-chunk.invariant.ordered
           (omega (arith, c.saturating_sub-low.ensures, c.rows.ensures)) (omega (arith, c.saturating_sub-high.ensures, c.rows-in-loop-chunk.ensures)) c.in_ok-push_part.ensures
           ∙ ap (λ rs. into ++ flat_map row_line (slice_range rs c.loop-chunk.low c.loop-chunk.high)) (sym left)
           ∙ c.loop-chunk.invariant.text;

@@ -8,6 +8,6 @@ use Rattle.report_text.proofs.rows.push_rows.Given as goal
 abbrev pub invariant-loop-chunk : goal.invariant-loop-chunk
 invariant-loop-chunk l = record {
   ordered : l.low ≤ l.high;
-  text : l.into.items ++ flat_map row_line (slice_range (rows_in (drop l.chunk-index l.earlier) ++ l.last.rows) l.low l.high)
-      ≡ l.fn.into.items ++ flat_map row_line (slice_range l.table.rows l.fn.from l.fn.to);
+  text : l.into.text ++ flat_map row_line (slice_range (rows_in (drop l.chunk-index l.earlier) ++ l.last.rows) l.low l.high)
+      ≡ l.fn.into.text ++ flat_map row_line (slice_range l.table.rows l.fn.from l.fn.to);
 }

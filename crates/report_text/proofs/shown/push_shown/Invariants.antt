@@ -6,7 +6,7 @@ use Rattle.report_text.proofs.shown.push_shown.Given as goal
 abbrev pub invariant-loop-at : goal.invariant-loop-at
 invariant-loop-at l = record {
   within : l.at ≤ length l.bytes;
-  text : l.into.items ++ shown (drop l.at l.bytes) ≡ l.fn.into.items ++ shown l.bytes;
+  text : l.into.text ++ shown (drop l.at l.bytes) ≡ l.fn.into.text ++ shown l.bytes;
 }
 
 abbrev pub decreases-loop-at : goal.decreases-loop-at

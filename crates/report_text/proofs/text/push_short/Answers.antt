@@ -6,6 +6,6 @@ use Rattle.report_text.proofs.text.push_short.Goals as goal
 
 pub returns-in-Explained : goal.returns-in-Explained
 returns-in-Explained c =
-    let before : List ℕ = c.args.into.now.items in
-    let after : List ℕ = c.push_explained.new.into.items in
+    let before : List ℕ = c.args.into.now.text in
+    let after : List ℕ = c.push_explained.new.into.text in
     subst (λ (o : Outcome). OnOk c.push_explained.result (after ≡ before ++ report_of o)) (sym c.in-Explained.is) c.push_explained.ensures
