@@ -1,16 +1,19 @@
 -- The windows that are cut so far stay those of the data as more bytes come.
-use Rattle.std.proofs.Common.{◌≡◌, ℕ, zero, suc, ◌+◌, ◌-◌, ◌*◌, ◌<◌, ◌≤◌, min, true, false, List, [], ◌∷◌, ◌++◌, length, map, take, drop, refl, sym, ap, ◌∙◌, subst, arith, append_assoc, length-append, length-drop}
-use Rattle.std.specs.Prelude.{Option, None, Some, slice_range}
+use Rattle.std.proofs.Common.{◌≡◌, ℕ, zero, suc, ◌+◌, ◌-◌, ◌*◌, ◌<◌, ◌≤◌, ◌⊎◌, inl, inr, min, Bool, true, false, List, [], ◌∷◌, ◌++◌, length, map, take, drop, refl, sym, ap, ◌∙◌, subst, arith, append_assoc, length-append, length-drop}
+use Rattle.std.specs.Prelude.{Option, slice_range}
+use Rattle.std.specs.Io.KnownBytes.{IsAtEnd, Consumes}
 use Rattle.std.specs.List.{range_with_len}
-use Rattle.std.proofs.KnownBytes.{Consumes-trans}
+use Rattle.std.proofs.KnownBytes.{Consumes-trans, Consumes-nil}
 use Rattle.std.proofs.Math.Nat.{mul-le-mul_right}
 use Rattle.std.proofs.lemmas.List.{append-nil, take-append-le, take_all}
 use Rattle.std.proofs.lemmas.List.FromFn.{map-range_with_len_more}
+use Rattle.window_load.specs.Window.{WindowView, reach, behind_front, IsFilled}
+use Rattle.window_load.proofs.WindowSteps.{none_behind}
 use Rattle.pipe_load.specs.declared.layout.Layout.{Layout}
 use Rattle.pipe_load.specs.declared.reader.Reader.{Reader}
 use Rattle.pipe_load.specs.declared.window.Window.{Window}
-use Rattle.pipe_load.specs.Layout.{IsLayout, stride, want, window_start, window_of, windows_of}
-use Rattle.pipe_load.specs.Reading.{CutsWindow, CutsNothing, IsNextOf, HasCut, HasCutAll}
+use Rattle.pipe_load.specs.Layout.{IsLayout, stride, lead, want, window_start, window_of, windows_of, turned}
+use Rattle.pipe_load.specs.Reading.{Fills, IsCut, IsTurned, HasCut, CutsOn}
 use Rattle.pipe_load.proofs.Lists.{drop_more}
 
 -- two functions that agree on numbers from a on agree on the list of them
@@ -72,129 +75,202 @@ module _ (s reach : ℕ) (some : 0 < s) where
   pub place_before : (k n : ℕ) → k < n → place_start k + place_len k ≤ n * s + reach
   place_before k n lt = omega (arith, place_ends k, one_more k, below k n lt)
 
-module _ (l : Layout) (some : 0 < stride l) where
+-- as many as there are at most
+drop_min : {A : Type 0} (xs : List A) (n : ℕ) → drop (min (length xs) n) xs ≡ drop n xs
+drop_min [] n = drop_nil (min 0 n) ∙ sym (drop_nil n)
+drop_min (x ∷ xs) zero = let none : min (length (x ∷ xs)) zero ≡ zero = omega arith in ap (λ k. drop k (x ∷ xs)) none
+drop_min (x ∷ xs) (suc n) = let more : min (length (x ∷ xs)) (suc n) ≡ suc (min (length xs) n) = omega arith in ap (λ k. drop k (x ∷ xs)) more ∙ drop_min xs n
+
+module _ (l : Layout) (layout : IsLayout l) where
   abbrev s : ℕ
   s = stride l
 
+  some : 0 < s
+  some = some_stride l layout
+
+  -- where a window ends, and where the next one's bytes begin
+  window_ends : (n : ℕ) → window_start l n + want l n ≡ (l.before + n + 1) * s + l.reach
+  window_ends n = place_ends s l.reach some (l.before + n)
+
+  next_starts : (n : ℕ) → window_start l n + (want l n - l.reach - 1) ≡ window_start l (n + 1)
+  next_starts n =
+      let e : l.before + n + 1 ≡ l.before + (n + 1) = omega arith in
+      let width : want l n - l.reach - 1 ≡ min (l.before + n) 1 + s - 1 = omega arith in
+      ap (λ m. window_start l n + m) width ∙ place_next s l.reach some (l.before + n) ∙ ap (λ m. m * s - 1) e
+
   -- the first windows stay where more bytes come behind them
-  pub windows_stay : (got more : List ℕ) (n : ℕ) → (0 < n → n * s + l.reach ≤ length got) → windows_of l (got ++ more) n ≡ windows_of l got n
+  windows_stay : (got more : List ℕ) (n : ℕ) → (0 < n → window_start l (n - 1) + want l (n - 1) ≤ length got) → windows_of l (got ++ more) n ≡ windows_of l got n
   windows_stay got more n enough = map_range (window_of l (got ++ more)) (window_of l got) 0 n
       (λ k lt. let under : k < n = omega (arith, lt) in
-      let far : n * s + l.reach ≤ length got = enough (omega (arith, under)) in
-      let within : window_start l k + want l k ≤ length got = omega (arith, far, place_before s l.reach some k n under) in
+      let far = enough (omega (arith, under)) in
+      let within : window_start l k + want l k ≤ length got =
+      (let last : k + 1 ≤ n = omega (arith, under) in
+      let before_last : l.before + k + 1 ≤ l.before + (n - 1) + 1 = omega (arith, last) in
+      omega (arith, far, window_ends k, window_ends (n - 1), mul-le-mul_right s before_last)) in
       λ i. record { number = k; bytes = slice_more got more (window_start l k) (want l k) within i })
 
-  -- the bytes from the start of a window on, where they are no more than it may have
-  pub window_is : (got : List ℕ) (k : ℕ) (w : Window) → w ≡ record { number = k; bytes = drop (window_start l k) got } → length w.bytes ≤ want l k → w ≡ window_of l got k
-  window_is got k w is most =
-      let start : ℕ = window_start l k in
-      let bytes_are : w.bytes ≡ drop start got = ap (λ (x : Window). x.bytes) is in
-      let fewer : length (drop start got) ≤ start + want l k - start = let e : length w.bytes ≡ length (drop start got) = ap length bytes_are in omega (arith, e, most) in
-      is ∙ (λ i. record { number = k; bytes = sym (take_all (start + want l k - start) (drop start got) fewer) i })
-
-  pub one_window_more : (got : List ℕ) (n : ℕ) → windows_of l got (n + 1) ≡ windows_of l got n ++ window_of l got n ∷ []
+  one_window_more : (got : List ℕ) (n : ℕ) → windows_of l got (n + 1) ≡ windows_of l got n ++ window_of l got n ∷ []
   one_window_more got n = map-range_with_len_more (window_of l got) 0 n n (let e : 0 + n ≡ n = omega arith in e)
 
-  module _ (head : List ℕ) (room : ℕ) (before mid after : Option (List ℕ)) (made : List Window) (got read : List ℕ) (old : Reader) (h : HasCut l head room before mid made got read old)
-      (new : Reader) (bytes more : List ℕ) where
-    abbrev k : ℕ
-    k = old.number
+  module _ (head : WindowView) (start before : Option (List ℕ)) (made : List Window) (read : List ℕ) (n : ℕ) (old : WindowView) (h : HasCut l head start before made read n old) where
+    abbrev text : List ℕ
+    text = head.kept ++ read
 
-    abbrev all : List ℕ
-    all = got ++ bytes
+    in_hand : length old.kept ≡ length text - window_start l n
+    in_hand = ap length h.kept ∙ length-drop (window_start l n) text
 
-    -- the bytes in hand are those from the start of the window on
-    in_hand : (old.ended ≡ true → bytes ≡ []) → old.carry.items ++ bytes ≡ drop (window_start l k) all
-    in_hand stays = ap (λ c. c ++ bytes) h.carry ∙ elim old.ended as (λ b. old.ended ≡ b → drop (window_start l k) got ++ bytes ≡ drop (window_start l k) all) [
-      | true ↦ (λ e. let none : bytes ≡ [] = stays e in
-          ap (λ b. drop (window_start l k) got ++ b) none ∙ append-nil (drop (window_start l k) got) ∙ ap (drop (window_start l k)) (sym (ap (λ b. got ++ b) none ∙ append-nil got)))
-      | false ↦ (λ e. sym (drop_more got bytes (window_start l k) (inside e k refl)))
-    ] refl
+    -- the next window is in hand, or nothing comes behind it
+    enough : (old.ended ≡ true) ⊎ (window_start l n + want l n ≤ length text)
+    enough = elim h.filled.0 [ inl ended ↦ inl ended | inr le ↦ inr (omega (arith, le, in_hand, some)) ]
+
+    -- whatever comes, the windows stay
+    pub stay_on : (more : List ℕ) → (old.ended ≡ true → more ≡ []) → windows_of l (text ++ more) (n + 1) ≡ windows_of l text (n + 1)
+    stay_on more may = elim enough [
+      | inl ended ↦ ap (λ t. windows_of l t (n + 1)) (ap (λ m. text ++ m) (may ended) ∙ append-nil text)
+      | inr le ↦ windows_stay text more (n + 1) (λ _. let same : n + 1 - 1 ≡ n = omega arith in subst (λ k. window_start l k + want l k ≤ length text) (sym same) le)
+    ]
+
+    pub stays : (more : List ℕ) → (old.ended ≡ true → more ≡ []) → windows_of l (text ++ more) n ≡ windows_of l text n
+    stays more may = elim enough [
+      | inl ended ↦ ap (λ t. windows_of l t n) (ap (λ m. text ++ m) (may ended) ∙ append-nil text)
+      | inr le ↦ windows_stay text more n (λ p.
+          let last : l.before + (n - 1) + 1 ≡ l.before + n = omega (arith, p) in
+          let up : (l.before + n) * s ≤ (l.before + n + 1) * s = mul-le-mul_right s (let e : l.before + n ≤ l.before + n + 1 = omega arith in e) in
+          omega (arith, window_ends (n - 1), window_ends n, ap (λ m. m * s) last, up, le))
+    ]
+
+    -- a window that is there begins before the end of the data
+    pub begins : lead l n < length old.kept → (l.before + n) * s < length text
+    begins there = by_place (l.before + n) refl (omega (arith, there, in_hand))
       where
-        inside : old.ended ≡ false → (n : ℕ) → n ≡ k → window_start l k ≤ length got
-        inside e zero is = let none : k * s ≡ 0 = ap (λ m. m * s) (sym is) ∙ zero_times s in omega (arith, none)
-        inside e (suc n) is = let enough = h.enough e (omega (arith, is)) in omega (arith, enough)
+        by_place : (p : ℕ) → p ≡ l.before + n → min p 1 + (p * s - 1) < length text → p * s < length text
+        by_place zero e lt = let none : 0 * s ≡ 0 = omega arith in omega (arith, lt, none)
+        by_place (suc p) e lt = omega (arith, lt)
 
-    all_is : bytes ++ new.head.now ≡ old.head.now ++ more → all ++ new.head.now ≡ head ++ (read ++ more)
-    all_is e = append_assoc got bytes new.head.now ∙ ap (λ t. got ++ t) e ∙ sym (append_assoc got old.head.now more) ∙ ap (λ t. t ++ more) h.all ∙ append_assoc head read more
+    -- one more window is cut, and more comes
+    module _ (there : lead l n < length old.kept) (after : Option (List ℕ)) (w : Window) (mid new : WindowView) (bytes : List ℕ)
+        (cut_is : w ≡ record { number = n; bytes = take (want l n) old.kept }) (behind : mid ≡ behind_front (min (length old.kept) (want l n - l.reach - 1)) old)
+        (moved : Consumes before after bytes) (comes : new.kept ≡ mid.kept ++ bytes) (base : new.base ≡ mid.base) (most : new.most ≡ mid.most) (still : mid.ended ≡ true → new ≡ mid)
+        (filled : IsFilled (want l (n + 1)) new) (at_end : new.ended ≡ true → IsAtEnd after) where
+      ended_is : mid.ended ≡ old.ended
+      ended_is = ap (λ (v : WindowView). v.ended) behind
 
-    abbrev next_length : length (read ++ more) ≡ length read + length more
-    next_length = length-append read more
+      pub none_more : old.ended ≡ true → bytes ≡ []
+      none_more ended = none_behind mid.kept bytes (sym comes ∙ ap (λ (v : WindowView). v.kept) (still (ended_is ∙ ended)))
 
-    pub cut_more : (w : Window) → IsNextOf mid after old new bytes more (Some w) → HasCut l head room before after (made ++ w ∷ []) all (read ++ more) new
-    cut_more w step =
-        let cut : CutsWindow old new bytes w = step.cases in
-        let hand : old.carry.items ++ bytes ≡ drop (window_start l k) all = in_hand step.stays in
-        let bytes_are : w.bytes ≡ drop (window_start l k) all = ap (λ (x : Window). x.bytes) cut.is ∙ hand in
-        let lengths : length w.bytes ≡ length all - window_start l k = ap length bytes_are ∙ length-drop (window_start l k) all in
-        let most : length w.bytes ≤ want l k = subst (λ (y : Layout). length w.bytes ≤ want y k) h.layout cut.most in
-        let number_is : new.number ≡ k + 1 = cut.number in
-        let ends : window_start l k + want l k ≡ (k + 1) * s + l.reach = place_ends s l.reach some k in
-        let next_starts : window_start l k + (min k 1 + s - 1) ≡ window_start l (k + 1) = place_next s l.reach some k in
-        let new_carry : new.carry.items ≡ drop (window_start l (k + 1)) all =
-        cut.carry ∙ (λ i. drop (min k 1 + stride (h.layout i) - 1) (hand i)) ∙ drop-drop (min k 1 + s - 1) (window_start l k) all ∙ ap (λ n. drop n all) next_starts in
-        record {
-          moved = Consumes-trans before mid after read more h.moved step.moved;
-          all = all_is step.all;
-          rest = omega (arith, next_length, step.room, h.rest);
-          some_room = step.some_room;
-          carry = new_carry ∙ ap (λ n. drop (window_start l n) all) (sym number_is);
-          windows =
-              (λ i. h.windows i ++ window_is all k w (cut.is ∙ (λ j. record { number = k; bytes = hand j })) most i ∷ [])
-              ∙ ap (λ ws. ws ++ window_of l all k ∷ []) (stay step.stays)
-              ∙ sym (one_window_more all k)
-              ∙ ap (windows_of l all) (sym number_is);
-          enough = λ e _. let whole : length w.bytes ≡ want l k = subst (λ (y : Layout). length w.bytes ≡ want y k) h.layout (cut.whole e) in
-              let is : (k + 1) * s + l.reach ≤ length all = omega (arith, whole, lengths, ends, some) in
-              subst (λ n. n * s + l.reach ≤ length all) (sym number_is) is;
-          begun = λ _. let some_bytes : min k 1 < length w.bytes = cut.some in
-              let is : k * s < length all = begins k refl (omega (arith, some_bytes, lengths)) in
-              let same : k ≡ new.number - 1 = omega (arith, number_is) in
-              subst (λ n. n * s < length all) same is;
-          fits = let e : length new.carry.items ≡ length all - window_start l (k + 1) = ap length new_carry ∙ length-drop (window_start l (k + 1)) all in
-              omega (arith, e, lengths, most, next_starts, some, new.carry.ok.0);
-          end = step.end;
-          layout = step.layout ∙ h.layout;
+      pub still_ended : old.ended ≡ true → new.ended ≡ true
+      still_ended ended = ap (λ (v : WindowView). v.ended) (still (ended_is ∙ ended)) ∙ ended_is ∙ ended
+
+      mid_is : mid.kept ≡ drop (window_start l (n + 1)) text
+      mid_is =
+          ap (λ (v : WindowView). v.kept) behind ∙ drop_min old.kept (want l n - l.reach - 1) ∙ ap (drop (want l n - l.reach - 1)) h.kept
+          ∙ drop-drop (want l n - l.reach - 1) (window_start l n) text ∙ ap (λ m. drop m text) (next_starts n)
+
+      kept_is : new.kept ≡ drop (window_start l (n + 1)) (head.kept ++ (read ++ bytes))
+      kept_is = comes ∙ ap (λ k. k ++ bytes) mid_is ∙ joined ∙ ap (drop (window_start l (n + 1))) (append_assoc head.kept read bytes)
+        where
+          joined : drop (window_start l (n + 1)) text ++ bytes ≡ drop (window_start l (n + 1)) (text ++ bytes)
+          joined = elim enough [
+            | inl ended ↦ ap (λ b. drop (window_start l (n + 1)) text ++ b) (none_more ended) ∙ append-nil (drop (window_start l (n + 1)) text)
+                ∙ ap (drop (window_start l (n + 1))) (sym (ap (λ b. text ++ b) (none_more ended) ∙ append-nil text))
+            | inr le ↦ sym (drop_more text bytes (window_start l (n + 1)) (omega (arith, le, next_starts n)))
+          ]
+
+      window_is : w ≡ window_of l text n
+      window_is =
+          let width : window_start l n + want l n - window_start l n ≡ want l n = omega arith in
+          cut_is ∙ (λ i. record { number = n; bytes = take (sym width i) (h.kept i) })
+
+      pub cut_on : HasCut l head start after (made ++ w ∷ []) (read ++ bytes) (n + 1) new
+      cut_on = record {
+        moved = Consumes-trans start before after read bytes h.moved moved;
+        none = λ e. ap (λ r. r ++ bytes) (h.none e) ∙ none_more (h.still e);
+        still = λ e. still_ended (h.still e);
+        kept = kept_is;
+        windows =
+            (λ i. h.windows i ++ window_is i ∷ []) ∙ sym (one_window_more text n) ∙ sym (stay_on bytes none_more)
+            ∙ ap (λ t. windows_of l t (n + 1)) (append_assoc head.kept read bytes);
+        begun = λ _. let same : l.before + (n + 1) - 1 ≡ l.before + n = omega arith in
+            let longer : length (head.kept ++ (read ++ bytes)) ≡ length text + length bytes = ap length (sym (append_assoc head.kept read bytes)) ∙ length-append text bytes in
+            let b = begins there in omega (arith, ap (λ m. m * s) same, longer, b);
+        filled = filled;
+        at_end = at_end;
+        reaches =
+            let mid_base : mid.base ≡ old.base + min (length old.kept) (want l n - l.reach - 1) = ap (λ (v : WindowView). v.base) behind in
+            let mid_length : length mid.kept ≡ length old.kept - min (length old.kept) (want l n - l.reach - 1) =
+            ap (λ (v : WindowView). length v.kept) behind ∙ length-drop (min (length old.kept) (want l n - l.reach - 1)) old.kept in
+            let new_length : length new.kept ≡ length mid.kept + length bytes = ap length comes ∙ length-append mid.kept bytes in
+            omega (arith, h.reaches, mid_base, mid_length, new_length, base, length-append read bytes);
+        most = most ∙ ap (λ (v : WindowView). v.most) behind ∙ h.most;
+      }
+
+    -- no window is left where no range begins in what is in hand
+    pub all_ended : length old.kept ≤ lead l n → old.ended ≡ true
+    all_ended few = elim h.filled.0 [ inl ended ↦ ended | inr le ↦ absurd (let never : ⊥ = omega (arith, le, few, some) in never) ]
+
+    pub all_covered : length old.kept ≤ lead l n → length text ≤ (l.before + n) * s
+    all_covered few = by_place (l.before + n) refl (omega (arith, few, in_hand))
+      where
+        at_least : (m : ℕ) → s ≤ suc m * s
+        at_least m = omega arith
+
+        by_place : (p : ℕ) → p ≡ l.before + n → length text - (p * s - 1) ≤ min p 1 → length text ≤ p * s
+        by_place zero e le = let none : 0 * s ≡ 0 = omega arith in omega (arith, le, none)
+        by_place (suc p) e le = let least = at_least p in omega (arith, le, least, some)
+
+    -- before the next round
+    pub turn_on : HasCut (turned l n) head start before [] read 0 old
+    turn_on =
+        let same : l.before + n + 0 ≡ l.before + n = omega arith in record {
+          moved = h.moved;
+          none = h.none;
+          still = h.still;
+          kept = h.kept ∙ ap (λ m. drop (m * s - 1) text) (sym same);
+          windows = refl;
+          begun = λ p. subst (λ m. (m - 1) * s < length text) (sym same) (h.begun (omega (arith, p, same)));
+          filled = subst (λ m. IsFilled (min m 1 + s + l.reach) old) (sym same) h.filled;
+          at_end = h.at_end;
+          reaches = h.reaches;
+          most = h.most;
         }
-      where
-        stay : (old.ended ≡ true → bytes ≡ []) → windows_of l got k ≡ windows_of l all k
-        stay stays = elim old.ended as (λ b. old.ended ≡ b → windows_of l got k ≡ windows_of l all k) [
-          | true ↦ (λ e. ap (λ t. windows_of l t k) (sym (ap (λ b. got ++ b) (stays e) ∙ append-nil got)))
-          | false ↦ (λ e. sym (windows_stay got bytes k (h.enough e)))
-        ] refl
 
-        begins : (n : ℕ) → n ≡ k → min k 1 + window_start l k < length all → k * s < length all
-        begins zero is lt = let none : k * s ≡ 0 = ap (λ m. m * s) (sym is) ∙ zero_times s in omega (arith, lt, none, is)
-        begins (suc n) is lt = omega (arith, lt, is)
+  -- at the start of the data
+  pub first_cut : (before after : Option (List ℕ)) (head new : WindowView) (bytes : List ℕ) → l.before ≡ 0 → Consumes before after bytes → new.kept ≡ head.kept ++ bytes → new.base ≡ head.base → new.most ≡ head.most →
+      (head.ended ≡ true → new ≡ head) → IsFilled (want l 0) new → (new.ended ≡ true → IsAtEnd after) → HasCut l head before after [] bytes 0 new
+  first_cut before after head new bytes first moved comes base most still filled at_end =
+      let none : l.before + 0 ≡ 0 = omega (arith, first) in
+      let place : window_start l 0 ≡ 0 = (let e : (l.before + 0) * s ≡ 0 * s = ap (λ m. m * s) none in let z : 0 * s ≡ 0 = omega arith in omega (arith, e, z)) in record {
+        moved = moved;
+        none = λ e. none_behind head.kept bytes (sym comes ∙ ap (λ (v : WindowView). v.kept) (still e));
+        still = λ e. ap (λ (v : WindowView). v.ended) (still e) ∙ e;
+        kept = comes ∙ ap (λ m. drop m (head.kept ++ bytes)) (sym place);
+        windows = refl;
+        begun = λ p. absurd (let never : ⊥ = omega (arith, p, none) in never);
+        filled = filled;
+        at_end = at_end;
+        reaches = let e : length new.kept ≡ length head.kept + length bytes = ap length comes ∙ length-append head.kept bytes in omega (arith, e, base);
+        most = most;
+      }
 
-    pub cut_all : IsNextOf mid after old new bytes more None → HasCutAll l head room before after made all (read ++ more) new.number
-    cut_all step =
-        let cut : CutsNothing old new bytes = step.cases in
-        let hand : old.carry.items ++ bytes ≡ drop (window_start l k) all = in_hand step.stays in
-        let lengths : length (old.carry.items ++ bytes) ≡ length all - window_start l k = ap length hand ∙ length-drop (window_start l k) all in
-        let number_is : new.number ≡ k = cut.number in
-        let none : new.head.now ≡ [] = step.end.head cut.ended in
-        let fewer : length all - window_start l k ≤ min k 1 = let few = cut.none in omega (arith, few, lengths) in
-        record {
-          moved = Consumes-trans before mid after read more h.moved step.moved;
-          end = step.end.source cut.ended;
-          text_is = sym (append-nil all) ∙ ap (λ t. all ++ t) (sym none) ∙ all_is step.all;
-          rest = omega (arith, next_length, step.room, h.rest, step.some_room);
-          windows = h.windows ∙ stay step.stays ∙ ap (windows_of l all) (sym number_is);
-          covered = subst (λ n. length all ≤ n * s) (sym number_is) (ends_with k refl fewer);
-          begun = subst (λ n. 0 < n → (n - 1) * s < length all) (sym number_is) (λ p. let b = h.begun p in omega (arith, b, length-append got bytes));
-        }
-      where
-        stay : (old.ended ≡ true → bytes ≡ []) → windows_of l got k ≡ windows_of l all k
-        stay stays = elim old.ended as (λ b. old.ended ≡ b → windows_of l got k ≡ windows_of l all k) [
-          | true ↦ (λ e. ap (λ t. windows_of l t k) (sym (ap (λ b. got ++ b) (stays e) ∙ append-nil got)))
-          | false ↦ (λ e. sym (windows_stay got bytes k (h.enough e)))
-        ] refl
+  -- ---- a round
 
-        ends_with : (n : ℕ) → n ≡ k → length all - window_start l k ≤ min k 1 → length all ≤ k * s
-        ends_with zero is le = let none : k * s ≡ 0 = ap (λ m. m * s) (sym is) ∙ zero_times s in omega (arith, le, none, is)
-        ends_with (suc n) is le = let least : s ≤ k * s = at_least k (omega (arith, is)) in omega (arith, le, is, least, some)
-          where
-            at_least : (m : ℕ) → 0 < m → s ≤ m * s
-            at_least (suc m) p = omega arith
-            at_least zero p = absurd (let never : ⊥ = omega (arith, p) in never)
+  pub cuts_none : (before : Option (List ℕ)) (old : WindowView) → CutsOn l before before [] 0 old old []
+  cuts_none before old = record {
+    moved = Consumes-nil before;
+    stays = λ e. (refl, e);
+    cut = λ head start read h. subst (λ r. HasCut l head start before [] r 0 old) (sym (append-nil read)) h;
+  }
+
+  pub cuts_more : (before between after : Option (List ℕ)) (made : List Window) (w : Window) (n : ℕ) (old held mid new : WindowView) (more bytes : List ℕ) → CutsOn l before between made n old held more → lead l n < length held.kept →
+      w ≡ record { number = n; bytes = take (want l n) held.kept } → mid ≡ behind_front (min (length held.kept) (want l n - l.reach - 1)) held → Consumes between after bytes →
+      new.kept ≡ mid.kept ++ bytes → new.base ≡ mid.base → new.most ≡ mid.most → (mid.ended ≡ true → new ≡ mid) → IsFilled (want l (n + 1)) new → (new.ended ≡ true → IsAtEnd after) →
+      CutsOn l before after (made ++ w ∷ []) (n + 1) old new (more ++ bytes)
+  cuts_more before between after made w n old held mid new more bytes h there cut_is behind moved comes base most still filled at_end = record {
+    moved = Consumes-trans before between after more bytes h.moved moved;
+    stays = λ e. let was = h.stays e in
+        let mid_ended : mid.ended ≡ true = ap (λ (v : WindowView). v.ended) behind ∙ was.1 in
+        let nothing : bytes ≡ [] = none_behind mid.kept bytes (sym comes ∙ ap (λ (v : WindowView). v.kept) (still mid_ended)) in
+        (ap (λ m. m ++ bytes) was.0 ∙ nothing, ap (λ (v : WindowView). v.ended) (still mid_ended) ∙ mid_ended);
+    cut = λ head start read first. subst (λ r. HasCut l head start after (made ++ w ∷ []) r (n + 1) new) (append_assoc read more bytes)
+        (cut_on head start between made (read ++ more) n held (h.cut head start read first) there after w mid new bytes cut_is behind moved comes base most still filled at_end);
+  }

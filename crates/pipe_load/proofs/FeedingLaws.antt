@@ -1,16 +1,18 @@
 -- Windows are put in the order of their numbers.
-use Rattle.std.proofs.Common.{◌≡◌, ℕ, zero, suc, ◌+◌, ◌-◌, ◌*◌, ◌<◌, ◌≤◌, ◌^◌, List, [], ◌∷◌, ◌++◌, length, get_or, refl, sym, ap, ◌∙◌, subst, arith, length-append, append_assoc, lt_of_not-le}
+use Rattle.std.proofs.Common.{◌≡◌, ℕ, zero, suc, ◌+◌, ◌-◌, ◌<◌, ◌≤◌, min, true, List, [], ◌∷◌, ◌++◌, length, take, get_or, refl, sym, ap, ◌∙◌, subst, arith, length-append, append_assoc, lt_of_not-le}
 use Rattle.std.specs.Prelude.{Option}
-use Rattle.std.proofs.Math.Nat.{mul-le-mul_left}
-use Rattle.std.proofs.lemmas.List.FromFn.{length-map-range_with_len}
+use Rattle.std.specs.Io.KnownBytes.{IsAtEnd}
 use mathlib.Core.Logic.{dite}
 use native.Mathlib.Decide.{dec_le}
+use Rattle.window_load.specs.Window.{WindowView, behind_front, IsFilled, ReachesOn}
+use Rattle.window_load.proofs.ReachedOn.{reaches_twice, drops_and_reaches}
 use Rattle.pipe_load.specs.declared.layout.Layout.{Layout}
 use Rattle.pipe_load.specs.declared.reader.Reader.{Reader}
 use Rattle.pipe_load.specs.declared.window.Window.{Window}
 use Rattle.pipe_load.specs.Feeding.{AreNumbered}
-use Rattle.pipe_load.specs.Layout.{IsLayout, stride, window_of}
-use Rattle.pipe_load.specs.Reading.{HasCut}
+use Rattle.pipe_load.specs.Layout.{IsLayout, lead, want}
+use Rattle.pipe_load.specs.Reading.{Fills, IsCut, CutsOn, passed}
+use Rattle.pipe_load.proofs.CuttingLaws.{cuts_more}
 
 pub at_seam : {A : Type 0} (xs : List A) (y : A) (ys : List A) (d : A) → get_or (xs ++ y ∷ ys) (length xs) d ≡ y
 at_seam [] y ys d = refl
@@ -43,32 +45,23 @@ pub kept_numbered : (put waiting more : List Window) (w : Window) → more ≡ w
 kept_numbered put waiting more w is numbered next =
     subst AreNumbered (append_assoc put waiting (w ∷ []) ∙ ap (λ ws. put ++ ws) (sym is)) (one_more_number (put ++ waiting) w numbered next)
 
-module _ (l : Layout) (layout : IsLayout l) (head : List ℕ) (room : ℕ) (before after : Option (List ℕ)) (made : List Window) (got read : List ℕ) (reader : Reader)
-    (h : HasCut l head room before after made got read reader) where
-  pub made_length : length made ≡ reader.number
-  made_length = ap length h.windows ∙ length-map-range_with_len (window_of l got) 0 reader.number
+-- ---- one more window of a round is cut, and the next one comes in hand
 
-  -- there are fewer windows than bytes
-  pub few_windows : length head + room < 2 ^ 34 → reader.number ≤ 2 ^ 34
-  few_windows small =
-      let lengths : length got + length reader.head.now ≡ length head + length read = sym (length-append got reader.head.now) ∙ ap length h.all ∙ length-append head read in
-      let some : 0 < stride l = some_stride in
-      at_most reader.number refl (omega (arith, lengths, h.rest, small))
-    where
-      some_stride : 0 < stride l
-      some_stride = positive l.ranges l.range_size layout.ranges layout.some
-        where
-          positive : (a b : ℕ) → 0 < a → 0 < b → 0 < a * b
-          positive a b p q = grind arith
+module _ (l : Layout) (layout : IsLayout l) (before between after : Option (List ℕ)) (w : Window) (held mid new : Reader) (same : held.layout ≡ l) (cut : IsCut held mid w) (fills : Fills between after mid new) where
+  pub reaches_more : (old : WindowView) → ReachesOn before between old held.window → ReachesOn before after old new.window
+  reaches_more old r =
+      let few : passed held ≤ length held.window.kept = omega arith in
+      reaches_twice before between after old held.window new.window r (drops_and_reaches between after (passed held) held.window mid.window new.window cut.behind few fills.moved fills.base fills.most)
 
-      at_most : (n : ℕ) → n ≡ reader.number → length got < 2 ^ 34 → reader.number ≤ 2 ^ 34
-      at_most zero is lt = omega (arith, is)
-      at_most (suc n) is lt =
-          let begun : (reader.number - 1) * stride l < length got = h.begun (omega (arith, is)) in
-          let before_last : reader.number - 1 ≡ n = omega (arith, is) in
-          let product : n * stride l < length got = subst (λ m. m * stride l < length got) before_last begun in
-          let least : n * 1 ≤ n * stride l = mul-le-mul_left n some_stride in
-          omega (arith, is, product, least, lt)
-
-  pub few_made : length head + room < 2 ^ 34 → length made ≤ 2 ^ 34
-  few_made small = omega (arith, made_length, few_windows small)
+  pub cuts_one_more : (made : List Window) (old : WindowView) (more : List ℕ) → CutsOn l before between made held.number old held.window more → lead held.layout held.number < length held.window.kept →
+      IsFilled (want mid.layout mid.number) new.window → (new.window.ended ≡ true → IsAtEnd after) → CutsOn l before after (made ++ w ∷ []) new.number old new.window (more ++ fills.moved.0)
+  cuts_one_more made old more h there filled at_end =
+      let number : new.number ≡ held.number + 1 = fills.number ∙ cut.number in
+      let filled_on : IsFilled (want l (held.number + 1)) new.window =
+      subst (λ (x : Layout). IsFilled (want x (held.number + 1)) new.window) (cut.layout ∙ same) (subst (λ m. IsFilled (want mid.layout m) new.window) cut.number filled) in
+      subst (λ n. CutsOn l before after (made ++ w ∷ []) n old new.window (more ++ fills.moved.0)) (sym number)
+      (cuts_more l layout before between after made w held.number old held.window mid.window new.window more fills.moved.0 h
+      (subst (λ (x : Layout). lead x held.number < length held.window.kept) same there)
+      (cut.is ∙ ap (λ (x : Layout). record { number = held.number; bytes = take (want x held.number) held.window.kept }) same)
+      (cut.behind ∙ ap (λ (x : Layout). behind_front (min (length held.window.kept) (want x held.number - x.reach - 1)) held.window) same)
+      fills.moved.2 fills.moved.1 fills.base fills.most fills.stays filled_on at_end)

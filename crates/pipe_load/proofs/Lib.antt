@@ -2,7 +2,6 @@ pub mod Begins
 pub mod Keeps
 pub mod Learned
 pub mod Lists
-pub mod ReadingLaws
 pub mod CuttingLaws
 pub mod FeedingLaws
 pub mod ScanningLaws
@@ -13,4 +12,5 @@ pub mod SlotsLaws
 pub mod AnswerLaws
 pub mod LoadLaws
 pub mod HoldsLaws
+pub mod RoundLaws
 pub mod MissingLaws

@@ -19,11 +19,11 @@ use Rattle.reject_book.specs.declared.reject.Reject.{Reject}
 use Rattle.pipe_load.specs.declared.joining.Counted.{Counted}
 use Rattle.pipe_load.specs.declared.layout.Layout.{Layout}
 use Rattle.pipe_load.specs.declared.window.Window.{Window}
-use Rattle.pipe_load.specs.Joining.{AddsRanges, IsJoinedTo}
+use Rattle.pipe_load.specs.Joining.{AddsRanges, IsJoinedTo, ranges_before}
 use Rattle.pipe_load.specs.Loading.{data_read}
 use Rattle.window_load.specs.DataRead.{IsDataRead}
 use Rattle.range_scan.proofs.RangeSteps.{begun, all_ranges}
-use Rattle.pipe_load.specs.Layout.{IsLayout, stride, want, window_start, window_of, windows_of, stretch_of, stretch_len, layout_of}
+use Rattle.pipe_load.specs.Layout.{IsLayout, stride, want, window_start, window_of, windows_of, stretch_of, stretch_len, layout_of, turned}
 use Rattle.pipe_load.specs.PassViews.{IsOneOf}
 use Rattle.pipe_load.proofs.CuttingLaws.{some_stride}
 use Rattle.pipe_load.proofs.WindowRanges.{lead_at}
@@ -39,12 +39,12 @@ pub one_is : (l : Layout) (text : List ℕ) (made : List Window) (count k : ℕ)
 one_is l text made count k w is one number =
     at_map (window_of l text) 0 count w.number w (subst (λ ws. get_elem? ws w.number ≡ some w) is one) ∙ ap (window_of l text) (let s : 0 + w.number ≡ k = omega (arith, number) in s)
 
--- each window begins before the end of the data
-pub begins_before : (s count k n : ℕ) → k < count → (0 < count → (count - 1) * s < n) → k * s < n
-begins_before s count k n lt begun =
-    let some_windows : 0 < count = omega (arith, lt) in
-    let last : k ≤ count - 1 = omega (arith, lt) in
-    omega (arith, mul-le-mul_right s last, begun some_windows)
+-- each window of a round begins before the end of the data, where the last one does
+pub begins_before : (s before count k n : ℕ) → k < count → (0 < before + count → (before + count - 1) * s < n) → (before + k) * s < n
+begins_before s before count k n lt begun =
+    let last : before + k ≤ before + count - 1 = omega (arith, lt) in
+    let there = begun (omega (arith, lt)) in
+    omega (arith, mul-le-mul_right s last, there)
 
 module _ (context : Context) (l : Layout) (layout : IsLayout l) (text : List ℕ) where
   abbrev r : ℕ
@@ -56,56 +56,67 @@ module _ (context : Context) (l : Layout) (layout : IsLayout l) (text : List ℕ
   abbrev all : ℕ
   all = range_count (length text) z
 
+  -- the ranges before a window that begins in the data
+  before_window : (k : ℕ) → (l.before + k) * stride l < length text → (l.before + k) * r ≤ all
+  before_window k inside =
+      let inside_ranges : (l.before + k) * r * z ≤ length text = omega (arith, inside) in
+      let few : (l.before + k) * r * z ≤ all * z = omega (arith, inside_ranges, count_covers (length text) z layout.some) in
+      le_of_mul-le-mul_right few layout.some
+
   -- how many ranges window k has
-  ranges_of : (k : ℕ) → k * stride l < length text → 0 < l.reach → k * r + stretch_len l (window_of l text k) ≡ min ((k + 1) * r) all
+  ranges_of : (k : ℕ) → (l.before + k) * stride l < length text → 0 < l.reach → (l.before + k) * r + stretch_len l (window_of l text k) ≡ ranges_before l text (k + 1)
   ranges_of k inside far =
       let start : ℕ = window_start l k in
+      let p : ℕ = l.before + k in
       let size : ℕ = length ((window_of l text k).bytes) in
-      let size_is : size ≡ min (min k 1 + stride l + l.reach) (length text - start) =
-      (let count : start + want l k - start ≡ min k 1 + stride l + l.reach = omega arith in omega (arith, count, length-take (start + want l k - start) (drop start text), length-drop start text)) in
-      let lead : start + min k 1 ≡ k * stride l = lead_at k (stride l) (some_stride l layout) in
-      let covered : (stretch_of l (window_of l text k)).to - (stretch_of l (window_of l text k)).from ≡ min (r * z) (length text - k * r * z) = omega (arith, size_is, lead, inside, far) in
-      let inside_ranges : k * r * z ≤ length text = omega (arith, inside) in
-      let few : k * r * z ≤ all * z = omega (arith, inside_ranges, count_covers (length text) z layout.some) in
-      let below : k * r ≤ all = le_of_mul-le-mul_right few layout.some in
-      let count : stretch_len l (window_of l text k) ≡ min r (all - k * r) =
-      ap (λ n. range_count n z) covered ∙ count_at_most (length text - k * r * z) z r layout.some ∙ ap (min r) (count_less (length text) z (k * r) layout.some inside_ranges) in
-      let next : (k + 1) * r ≡ k * r + r = omega arith in
+      let size_is : size ≡ min (min p 1 + stride l + l.reach) (length text - start) =
+      (let count : start + want l k - start ≡ min p 1 + stride l + l.reach = omega arith in omega (arith, count, length-take (start + want l k - start) (drop start text), length-drop start text)) in
+      let lead : start + min p 1 ≡ p * stride l = lead_at p (stride l) (some_stride l layout) in
+      let covered : (stretch_of l (window_of l text k)).to - (stretch_of l (window_of l text k)).from ≡ min (r * z) (length text - p * r * z) = omega (arith, size_is, lead, inside, far) in
+      let inside_ranges : p * r * z ≤ length text = omega (arith, inside) in
+      let below : p * r ≤ all = before_window k inside in
+      let count : stretch_len l (window_of l text k) ≡ min r (all - p * r) =
+      ap (λ n. range_count n z) covered ∙ count_at_most (length text - p * r * z) z r layout.some ∙ ap (min r) (count_less (length text) z (p * r) layout.some inside_ranges) in
+      let next : (l.before + (k + 1)) * r ≡ p * r + r = omega arith in
       omega (arith, count, below, next)
 
-  before_window : (k : ℕ) → k * stride l < length text → min (k * r) all ≡ k * r
-  before_window k inside =
-      let few : k * r * z ≤ all * z = omega (arith, inside, count_covers (length text) z layout.some) in
-      let below : k * r ≤ all = le_of_mul-le-mul_right few layout.some in omega (arith, below)
-
   -- one window more
-  pub next_window : (k : ℕ) (w : Window) (old new : Counted) → w ≡ window_of l text k → k * stride l < length text → l.reach ≡ context.schema.max_line_size + 1 →
-      AddsRanges context l w (stretch_len l w) old new → IsJoinedTo context text l.data_start z (min (k * r) all) old → IsJoinedTo context text l.data_start z (min ((k + 1) * r) all) new
+  pub next_window : (k : ℕ) (w : Window) (old new : Counted) → w ≡ window_of l text k → (l.before + k) * stride l < length text → l.reach ≡ context.schema.max_line_size + 1 →
+      AddsRanges context l w (stretch_len l w) old new → IsJoinedTo context text l.data_start z (ranges_before l text k) old → IsJoinedTo context text l.data_start z (ranges_before l text (k + 1)) new
   next_window k w old new is inside reach adds h =
       let far : 0 < l.reach = omega (arith, reach) in
-      let before : IsJoinedTo context text l.data_start z (k * r) old = subst (λ j. IsJoinedTo context text l.data_start z j old) (before_window k inside) h in
-      let there : k * r + stretch_len l w ≡ min ((k + 1) * r) all = ap (λ (x : Window). k * r + stretch_len l x) is ∙ ranges_of k inside far in
+      let here : ranges_before l text k ≡ (l.before + k) * r = (let le = before_window k inside in omega (arith, le)) in
+      let before : IsJoinedTo context text l.data_start z ((l.before + k) * r) old = subst (λ j. IsJoinedTo context text l.data_start z j old) here h in
+      let there : (l.before + k) * r + stretch_len l w ≡ ranges_before l text (k + 1) = ap (λ (x : Window). (l.before + k) * r + stretch_len l x) is ∙ ranges_of k inside far in
       subst (λ j. IsJoinedTo context text l.data_start z j new) there (adds.joins text k is inside reach before)
 
   -- no window yet
-  pub first_window : (new : Counted) → IsBegun context RowStart new.joined → new.ranges ≡ 0 → new.length ≡ 0 → IsJoinedTo context text l.data_start z (min (0 * r) all) new
-  first_window new h ranges bytes =
-      let none : min (0 * r) all ≡ 0 = omega arith in
+  pub first_window : (new : Counted) → l.before ≡ 0 → IsBegun context RowStart new.joined → new.ranges ≡ 0 → new.length ≡ 0 → IsJoinedTo context text l.data_start z (ranges_before l text 0) new
+  first_window new first h ranges bytes =
+      let place : l.before + 0 ≡ 0 = omega (arith, first) in
+      let none : ranges_before l text 0 ≡ 0 = (let e : (l.before + 0) * r ≡ 0 * r = ap (λ m. m * r) place in let o : 0 * r ≡ 0 = omega arith in omega (arith, e, o)) in
       subst (λ j. IsJoinedTo context text l.data_start z j new) (sym none) record {
         joined = begun context text l.data_start z new.joined h;
         ranges = ranges;
         bytes = bytes ∙ (let empty : 0 ≡ min (0 * z) (length text) = omega arith in empty);
       }
 
+  -- a round is followed by the next one
+  pub next_round : (n : ℕ) (new : Counted) → IsJoinedTo context text l.data_start z (ranges_before l text n) new → IsJoinedTo context text l.data_start z (ranges_before (turned l n) text 0) new
+  next_round n new h = let same : l.before + n ≡ l.before + n + 0 = omega arith in subst (λ m. IsJoinedTo context text l.data_start z (min (m * r) all) new) same h
+
   -- all windows
-  pub last_window : (count : ℕ) (new : Counted) → length text ≤ count * stride l → IsJoinedTo context text l.data_start z (min (count * r) all) new → IsJoinedTo context text l.data_start z all new
+  pub last_window : (count : ℕ) (new : Counted) → length text ≤ (l.before + count) * stride l → IsJoinedTo context text l.data_start z (ranges_before l text count) new → IsJoinedTo context text l.data_start z all new
   last_window count new covered h =
-      let at_most : all ≤ count * r = count_within_all in
-      subst (λ j. IsJoinedTo context text l.data_start z j new) (let e : min (count * r) all ≡ all = omega (arith, at_most) in e) h
+      let at_most : all ≤ (l.before + count) * r = count_within_all in
+      subst (λ j. IsJoinedTo context text l.data_start z j new) (let e : ranges_before l text count ≡ all = omega (arith, at_most) in e) h
     where
-      count_within_all : all ≤ count * r
-      count_within_all = let text_is : length text ≡ min (count * r * z) (length text) = omega (arith, covered) in
-          let e : all ≡ min (count * r) all = ap (λ n. range_count n z) text_is ∙ count_at_most (length text) z (count * r) layout.some in omega (arith, e)
+      p : ℕ
+      p = l.before + count
+
+      count_within_all : all ≤ p * r
+      count_within_all = let text_is : length text ≡ min (p * r * z) (length text) = omega (arith, covered) in
+          let e : all ≡ min (p * r) all = ap (λ n. range_count n z) text_is ∙ count_at_most (length text) z (p * r) layout.some in omega (arith, e)
 
   -- all ranges are the data
   pub all_read : (counted : Counted) → IsJoinedTo context text l.data_start z all counted → IsDataRead context text l.data_start z (data_read counted)
@@ -162,6 +173,7 @@ layout_lies data_start size line positive small rows start =
       few = omega (arith, divides, least, rows);
       short = omega (arith, divides, rows, small);
       far = omega (arith, rows);
+      early = omega arith;
     }
 
 -- windows of the data are numbered

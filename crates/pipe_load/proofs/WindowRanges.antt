@@ -78,7 +78,7 @@ before_within xs a m f f_m inside led =
           sym (last_or-some (last_or None (take a xs)) (take f (drop a xs)) long) ∙ sym (last_or-append None (take a xs) (take f (drop a xs))) ∙ ap (last_or None) (sym (take-add a f xs)))
     ]
 
-module _ (context : Context) (l : Layout) (layout : IsLayout l) (text : List ℕ) (k n : ℕ) (inside : k * stride l < length text) (reach : l.reach ≡ context.schema.max_line_size + 1)
+module _ (context : Context) (l : Layout) (layout : IsLayout l) (text : List ℕ) (k n : ℕ) (inside : (l.before + k) * stride l < length text) (reach : l.reach ≡ context.schema.max_line_size + 1)
     (below : n < stretch_len l (window_of l text k)) where
   abbrev r : ℕ
   r = l.ranges
@@ -90,7 +90,7 @@ module _ (context : Context) (l : Layout) (layout : IsLayout l) (text : List ℕ
   s = stride l
 
   abbrev j : ℕ
-  j = k * r + n
+  j = (l.before + k) * r + n
 
   abbrev w : Window
   w = window_of l text k
@@ -99,7 +99,7 @@ module _ (context : Context) (l : Layout) (layout : IsLayout l) (text : List ℕ
   start = window_start l k
 
   abbrev lead : ℕ
-  lead = min k 1
+  lead = min (l.before + k) 1
 
   abbrev size : ℕ
   size = length w.bytes
@@ -113,8 +113,8 @@ module _ (context : Context) (l : Layout) (layout : IsLayout l) (text : List ℕ
   some : 0 < s
   some = some_stride l layout
 
-  at : start + lead ≡ k * s
-  at = lead_at k s some
+  at : start + lead ≡ (l.before + k) * s
+  at = lead_at (l.before + k) s some
 
   one : lead ≤ 1
   one = omega arith
@@ -128,10 +128,10 @@ module _ (context : Context) (l : Layout) (layout : IsLayout l) (text : List ℕ
   covered : st.to - st.from ≡ min s (size - min size lead)
   covered = omega arith
 
-  covered_is : min s (size - min size lead) ≡ min s (length text - k * s)
+  covered_is : min s (size - min size lead) ≡ min s (length text - (l.before + k) * s)
   covered_is = let p = at in let q = inside in let b = size_is in let f = far in omega (arith, p, q, b, f)
 
-  before : n * z < min s (length text - k * s)
+  before : n * z < min s (length text - (l.before + k) * s)
   before = let c = count_before (st.to - st.from) z n layout.some below in omega (arith, c, covered, covered_is)
 
   fits : n * z + z ≤ s
@@ -143,23 +143,23 @@ module _ (context : Context) (l : Layout) (layout : IsLayout l) (text : List ℕ
   to_is : span.to ≡ min size lead + min (n * z + z) (min s (size - min size lead))
   to_is = let e : (n + 1) * z ≡ n * z + z = omega arith in let c = covered in omega (arith, e, c)
 
-  begins_at : start + span.from ≡ k * s + n * z
-  begins_at = begins s z l.reach (length text) start lead (k * s) (n * z) size at one inside layout.some far size_is before fits
+  begins_at : start + span.from ≡ (l.before + k) * s + n * z
+  begins_at = begins s z l.reach (length text) start lead ((l.before + k) * s) (n * z) size at one inside layout.some far size_is before fits
 
-  ends_at : start + span.to ≡ min (k * s + n * z + z) (length text)
-  ends_at = ap (λ t. start + t) to_is ∙ ends s z l.reach (length text) start lead (k * s) (n * z) size at one inside layout.some far size_is before fits
+  ends_at : start + span.to ≡ min ((l.before + k) * s + n * z + z) (length text)
+  ends_at = ap (λ t. start + t) to_is ∙ ends s z l.reach (length text) start lead ((l.before + k) * s) (n * z) size at one inside layout.some far size_is before fits
 
   from_to : span.from ≤ span.to
-  from_to = let o = ordered s z l.reach (length text) start lead (k * s) (n * z) size at one inside layout.some far size_is before fits in omega (arith, o, to_is)
+  from_to = let o = ordered s z l.reach (length text) start lead ((l.before + k) * s) (n * z) size at one inside layout.some far size_is before fits in omega (arith, o, to_is)
 
   to_within : span.to ≤ size
-  to_within = let o = within s z l.reach (length text) start lead (k * s) (n * z) size at one inside layout.some far size_is before fits in omega (arith, o, to_is)
+  to_within = let o = within s z l.reach (length text) start lead ((l.before + k) * s) (n * z) size at one inside layout.some far size_is before fits in omega (arith, o, to_is)
 
   -- range j of the data begins there
-  place : j * z ≡ k * s + n * z
+  place : j * z ≡ (l.before + k) * s + n * z
   place = omega arith
 
-  next_place : (j + 1) * z ≡ k * s + n * z + z
+  next_place : (j + 1) * z ≡ (l.before + k) * s + n * z + z
   next_place = omega arith
 
   pub in_data : j * z ≤ length text
@@ -172,14 +172,14 @@ module _ (context : Context) (l : Layout) (layout : IsLayout l) (text : List ℕ
   next_is = ends_at ∙ ap (λ m. min m (length text)) (sym next_place)
 
   led : (start ≡ 0) ⊎ (0 < span.from)
-  led = by_number k refl
+  led = by_number (l.before + k) refl
     where
-      by_number : (i : ℕ) → i ≡ k → (start ≡ 0) ⊎ (0 < span.from)
-      by_number zero e = let none : k * s ≡ 0 = ap (λ m. m * s) (sym e) ∙ (let z0 : 0 * s ≡ 0 = omega arith in z0) in inl (omega (arith, none))
+      by_number : (i : ℕ) → i ≡ l.before + k → (start ≡ 0) ⊎ (0 < span.from)
+      by_number zero e = let none : (l.before + k) * s ≡ 0 = ap (λ m. m * s) (sym e) ∙ (let z0 : 0 * s ≡ 0 = omega arith in z0) in inl (omega (arith, none))
       by_number (suc i) e = let b = begins_at in let p = at in let l1 : lead ≡ 1 = omega (arith, e) in inr (omega (arith, b, p, l1))
 
   reached : (length text ≤ start + want l k) ⊎ (span.to + context.schema.max_line_size < size)
-  reached = elim (reaches s z l.reach (length text) start lead (k * s) (n * z) size at one inside layout.some far size_is before fits) [
+  reached = elim (reaches s z l.reach (length text) start lead ((l.before + k) * s) (n * z) size at one inside layout.some far size_is before fits) [
     | inl e ↦ inl (omega (arith, e))
     | inr e ↦ inr (omega (arith, e, reach, to_is))
   ]
@@ -223,7 +223,7 @@ adds_more context l w n old mid new layout below h adds = record {
   types = adds.joins.adds.types ∙ h.types;
   keep = ap (λ b. b.keep) adds.joins.adds.book ∙ h.keep;
   joins = λ text k is begins reach before.
-      let same : k * l.ranges + n + 1 ≡ k * l.ranges + (n + 1) = omega arith in
+      let same : (l.before + k) * l.ranges + n + 1 ≡ (l.before + k) * l.ranges + (n + 1) = omega arith in
       let under : n < stretch_len l (window_of l text k) = subst (λ (x : Window). n < stretch_len l x) is below in
       let added : AddsRange context (window_of l text k).bytes (base_of l (window_of l text k)) (span_of (stretch_of l (window_of l text k)) n) mid new =
       subst (λ (x : Window). AddsRange context x.bytes (base_of l x) (span_of (stretch_of l x) n) mid new) is adds in
@@ -236,7 +236,7 @@ pub adds_none : (context : Context) (l : Layout) (w : Window) (old : Counted) �
 adds_none context l w old types keep = record {
   types = types;
   keep = keep;
-  joins = λ text k is begins reach before. let same : k * l.ranges ≡ k * l.ranges + 0 = omega arith in subst (λ j. IsJoinedTo context text l.data_start l.range_size j old) same before;
+  joins = λ text k is begins reach before. let same : (l.before + k) * l.ranges ≡ (l.before + k) * l.ranges + 0 = omega arith in subst (λ j. IsJoinedTo context text l.data_start l.range_size j old) same before;
 }
 
 -- the next part, and those behind it

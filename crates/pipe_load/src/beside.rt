@@ -1,13 +1,13 @@
-//! The reading of the data beside the scans of the stages.
-ghost use Rattle.std.specs.Prelude.{◌≡◌, ◌+◌, ◌≤◌, ◌<◌, ◌^◌, [], ℕ, List, false, All, OnOk, Err, length, vec_len, slice_index_or};
-ghost use Rattle.std.specs.Io.KnownBytes.{Consumes};
+//! The reading of a round beside the scans of the stages.
+ghost use Rattle.std.specs.Prelude.{◌≡◌, ◌+◌, ◌≤◌, ◌<◌, [], ℕ, List, true, false, All, OnOk, Err, length, vec_len, slice_index_or};
+ghost use Rattle.std.specs.Io.KnownBytes.{IsAtEnd};
 ghost use Rattle.crossbeam_queue.specs.Passes.{view};
 ghost use Rattle.csv_source.specs.Causes.{Rose};
-ghost use Rattle.window_load.specs.DataRead.{Comes};
+ghost use Rattle.window_load.specs.Window.{reach, ReachesOn};
 ghost use Rattle.window_load.specs.declared.stop.LoadStop.TheVariants as stops;
-ghost use Rattle.pipe_load.specs.Feeding.{IsCallers, IsFeed, IsFed, made_of};
-ghost use Rattle.pipe_load.specs.Layout.{IsLayout};
-ghost use Rattle.pipe_load.specs.Reading.{HasCutAll, IsStarted};
+ghost use Rattle.pipe_load.specs.Feeding.{AreNumbered, IsCallers, IsFeed, IsFed, made_of};
+ghost use Rattle.pipe_load.specs.Layout.{IsLayout, round_len};
+ghost use Rattle.pipe_load.specs.Reading.{CutsOn};
 ghost use Rattle.pipe_load.specs.Scanning.{IsStage, HasScanned, HasEnded};
 
 use crate::feeding::Feed;
@@ -23,7 +23,7 @@ use std::thread::Threads;
 use window_load::LoadStop;
 
 impl<'r, 'a, R: Threads + Wait + Sync, G: Gate> Pipeline<'r, 'a, R, G> {
-    /// Reads the data and puts their windows, while the stages scan those that are there. The reading is on the caller's own
+    /// Reads a round of the data and puts its windows, while the stages scan those that are there. The reading is on the caller's own
     /// thread: where none can be made for the stages they come last, and find what was put and the end.
     fn read_beside_stages<S: Source + Send>(
         &self,
@@ -36,11 +36,10 @@ impl<'r, 'a, R: Threads + Wait + Sync, G: Gate> Pipeline<'r, 'a, R, G> {
         requires feed { IsFeed windows.now (view feed.old.pass).stages feed.old }
         requires none { made_of feed.old ≡ [] }
         requires layout { IsLayout reader.old.layout }
-        requires start { IsStarted reader.old.head.now reader.old.layout reader.old.room reader.old }
-        requires room { 0 < reader.old.room }
+        requires start { reader.old.number ≡ 0 }
+        requires at_end { reader.old.window.ended ≡ true → IsAtEnd (S.left source.old) }
         requires some { 0 < length stages.old }
         requires many { length stages.old ≤ 64 }
-        requires small { length reader.old.head.now + reader.old.room < 2 ^ 34 }
         requires stages { All (IsStage windows.now) stages.old }
         requires all { All (HasScanned self.now.scanner.ranges.context.now self.now.scanner.layout) stages.old }
         ensures stages { All (IsStage windows.now) stages.new }
@@ -50,16 +49,19 @@ impl<'r, 'a, R: Threads + Wait + Sync, G: Gate> Pipeline<'r, 'a, R, G> {
         ensures pass { IsCallers windows.now (view feed.old.pass).stages feed.new.pass }
         // Whatever the answer, all windows were put and all end marks, or the queue was full at a moment.
         ensures fed { IsFed (length stages.old) feed.new }
+        ensures numbered { AreNumbered (made_of feed.new) }
+        ensures few { length (made_of feed.new) ≤ round_len reader.old.layout }
         // Whatever the answer, bytes came from the source, and the rest is left.
-        ensures moved { Comes (S.left source.old) (S.left source.new) }
-        ensures ok { OnOk result ((text : List ℕ) × (read : List ℕ)
-            × HasCutAll reader.old.layout reader.old.head.now reader.old.room (S.left source.old) (S.left source.new) (made_of feed.new) text read reader.new.number) }
+        ensures moved { ReachesOn (S.left source.old) (S.left source.new) reader.old.window reader.new.window }
+        ensures ok { OnOk result ((more : List ℕ)
+            × CutsOn reader.old.layout (S.left source.old) (S.left source.new) (made_of feed.new) reader.new.number reader.old.window reader.new.window more) }
+        ensures same { reader.new.layout ≡ reader.old.layout }
+        ensures counted { OnOk result (length (made_of feed.new) ≡ reader.new.number) }
+        ensures too_large { result ≡ Err stops.TooLarge → reach reader.new.window ≡ reader.new.window.most + 1 }
+        ensures at_end { reader.new.window.ended ≡ true → IsAtEnd (S.left source.new) }
         ensures held { S.held source.new ≡ S.held source.old }
         ensures count { S.faults source.old ≤ S.faults source.new }
         ensures failed { result ≡ Err stops.Failed → Rose (S.faults source.old) (S.faults source.new) }
-        // What may be read at most was read.
-        ensures large { result ≡ Err stops.TooLarge
-            → (read : List ℕ) × Consumes (S.left source.old) (S.left source.new) read × (length read ≡ reader.old.room) }
     {
         let count = stages.len();
         let ((), read) = thread::join_mut(
@@ -89,14 +91,13 @@ impl<'r, 'a, R: Threads + Wait + Sync, G: Gate> Pipeline<'r, 'a, R, G> {
         requires feed { IsFeed windows.now (view feed.old.pass).stages feed.old }
         requires none { made_of feed.old ≡ [] }
         requires layout { IsLayout reader.old.layout }
-        requires start { IsStarted reader.old.head.now reader.old.layout reader.old.room reader.old }
-        requires room { 0 < reader.old.room }
+        requires start { reader.old.number ≡ 0 }
+        requires at_end { reader.old.window.ended ≡ true → IsAtEnd (S.left source.old) }
         requires some { 0 < length stages.old.items }
         requires many { length stages.old.items ≤ 64 }
-        requires small { length reader.old.head.now + reader.old.room < 2 ^ 34 }
         requires stages { All (IsStage windows.now) stages.old.items }
         requires all { All (HasScanned self.now.scanner.ranges.context.now self.now.scanner.layout) stages.old.items }
-        ensures same { vec_len stages.new ≡ vec_len stages.old }
+        ensures many { vec_len stages.new ≡ vec_len stages.old }
         ensures stages { All (IsStage windows.now) stages.new.items }
         ensures all { All (λ stage. stage.short ≡ false → HasScanned self.now.scanner.ranges.context.now self.now.scanner.layout stage) stages.new.items }
         ensures ended { (k : ℕ) (d : _) → k < length stages.old.items → (slice_index_or stages.new.items k d).short ≡ false
@@ -104,16 +105,19 @@ impl<'r, 'a, R: Threads + Wait + Sync, G: Gate> Pipeline<'r, 'a, R, G> {
         ensures pass { IsCallers windows.now (view feed.old.pass).stages feed.new.pass }
         // Whatever the answer, all windows were put and all end marks, or the queue was full at a moment.
         ensures fed { IsFed (length stages.old.items) feed.new }
+        ensures numbered { AreNumbered (made_of feed.new) }
+        ensures few { length (made_of feed.new) ≤ round_len reader.old.layout }
         // Whatever the answer, bytes came from the source, and the rest is left.
-        ensures moved { Comes (S.left source.old) (S.left source.new) }
-        ensures ok { OnOk result ((text : List ℕ) × (read : List ℕ)
-            × HasCutAll reader.old.layout reader.old.head.now reader.old.room (S.left source.old) (S.left source.new) (made_of feed.new) text read reader.new.number) }
+        ensures moved { ReachesOn (S.left source.old) (S.left source.new) reader.old.window reader.new.window }
+        ensures ok { OnOk result ((more : List ℕ)
+            × CutsOn reader.old.layout (S.left source.old) (S.left source.new) (made_of feed.new) reader.new.number reader.old.window reader.new.window more) }
+        ensures same { reader.new.layout ≡ reader.old.layout }
+        ensures counted { OnOk result (length (made_of feed.new) ≡ reader.new.number) }
+        ensures too_large { result ≡ Err stops.TooLarge → reach reader.new.window ≡ reader.new.window.most + 1 }
+        ensures at_end { reader.new.window.ended ≡ true → IsAtEnd (S.left source.new) }
         ensures held { S.held source.new ≡ S.held source.old }
         ensures count { S.faults source.old ≤ S.faults source.new }
         ensures failed { result ≡ Err stops.Failed → Rose (S.faults source.old) (S.faults source.new) }
-        // What may be read at most was read.
-        ensures large { result ≡ Err stops.TooLarge
-            → (read : List ℕ) × Consumes (S.left source.old) (S.left source.new) read × (length read ≡ reader.old.room) }
     {
         self.read_beside_stages(windows, reader, source, feed, stages.as_mut_slice())
     }

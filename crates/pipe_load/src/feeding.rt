@@ -1,14 +1,14 @@
 //! The caller's side of the queue while it reads.
-ghost use Rattle.std.specs.Prelude.{◌≡◌, ◌+◌, ◌<◌, ◌≤◌, ◌^◌, ◌++◌, ◌∷◌, ℕ, List, [], length, IsTrue, IsFalse, OnOk, OnErr, Err};
-ghost use Rattle.std.specs.Io.KnownBytes.{Consumes};
+ghost use Rattle.std.specs.Prelude.{◌≡◌, ◌+◌, ◌<◌, ◌≤◌, ◌^◌, ◌++◌, ◌∷◌, ℕ, List, [], true, length, IsTrue, IsFalse, OnOk, OnErr, Err};
+ghost use Rattle.std.specs.Io.KnownBytes.{IsAtEnd};
 ghost use Rattle.crossbeam_queue.specs.Passes.{view};
 ghost use Rattle.csv_source.specs.Causes.{Rose};
-ghost use Rattle.window_load.specs.DataRead.{Comes};
+ghost use Rattle.window_load.specs.Window.{reach, ReachesOn};
 ghost use Rattle.window_load.specs.declared.stop.LoadStop.TheVariants as stops;
-ghost use Rattle.pipe_load.specs.Feeding.{IsCallers, IsFeed, IsFed, WaitsForRoom, made_of};
-ghost use Rattle.pipe_load.specs.Layout.{IsLayout};
+ghost use Rattle.pipe_load.specs.Feeding.{AreNumbered, IsCallers, IsFeed, IsFed, WaitsForRoom, made_of};
+ghost use Rattle.pipe_load.specs.Layout.{IsLayout, round_len};
 ghost use Rattle.pipe_load.specs.PassViews.{with_marks};
-ghost use Rattle.pipe_load.specs.Reading.{HasCutAll, IsStarted};
+ghost use Rattle.pipe_load.specs.Reading.{CutsOn};
 ghost use Rattle.pipe_load.specs.Rule.{WasFull};
 
 use crate::reader::Reader;
@@ -60,8 +60,8 @@ impl Feed {
         Ok(())
     }
 
-    /// Reads the data to their end, and puts their windows. Those for which there is no room wait.
-    fn put_all<R: Wait, S: Source>(
+    /// Puts the windows of a round, and reads on until the one behind them is in hand. Those for which there is no room wait.
+    fn put_round<R: Wait, S: Source>(
         &mut self,
         rt: &R,
         windows: &Windows,
@@ -71,30 +71,29 @@ impl Feed {
         requires feed { IsFeed windows.now (view self.old.pass).stages self.old }
         requires none { made_of self.old ≡ [] }
         requires layout { IsLayout reader.old.layout }
-        requires start { IsStarted reader.old.head.now reader.old.layout reader.old.room reader.old }
-        requires room { 0 < reader.old.room }
-        requires small { length reader.old.head.now + reader.old.room < 2 ^ 34 }
+        requires start { reader.old.number ≡ 0 }
+        requires at_end { reader.old.window.ended ≡ true → IsAtEnd (S.left source.old) }
         ensures feed { IsFeed windows.now (view self.old.pass).stages self.new }
-        ensures few { length (made_of self.new) < 2 ^ 39 }
+        ensures few { length (made_of self.new) ≤ round_len reader.old.layout }
         // Whatever the answer, bytes came from the source, and the rest is left.
-        ensures moved { Comes (S.left source.old) (S.left source.new) }
-        ensures ok { OnOk result ((text : List ℕ) × (read : List ℕ)
-            × HasCutAll reader.old.layout reader.old.head.now reader.old.room (S.left source.old) (S.left source.new) (made_of self.new) text read reader.new.number) }
+        ensures moved { ReachesOn (S.left source.old) (S.left source.new) reader.old.window reader.new.window }
+        ensures ok { OnOk result ((more : List ℕ)
+            × CutsOn reader.old.layout (S.left source.old) (S.left source.new) (made_of self.new) reader.new.number reader.old.window reader.new.window more) }
+        ensures same { reader.new.layout ≡ reader.old.layout }
+        ensures counted { OnOk result (length (made_of self.new) ≡ reader.new.number) }
+        ensures too_large { result ≡ Err stops.TooLarge → reach reader.new.window ≡ reader.new.window.most + 1 }
+        ensures at_end { reader.new.window.ended ≡ true → IsAtEnd (S.left source.new) }
         ensures held { S.held source.new ≡ S.held source.old }
         ensures count { S.faults source.old ≤ S.faults source.new }
         ensures failed { result ≡ Err stops.Failed → Rose (S.faults source.old) (S.faults source.new) }
-        // What may be read at most was read.
-        ensures large { result ≡ Err stops.TooLarge
-            → (read : List ℕ) × Consumes (S.left source.old) (S.left source.new) read × (length read ≡ reader.old.room) }
     {
-        for _ in 0..u64::MAX {
-            match reader.next(source) {
-                Ok(Some(window)) => self.keep(rt, windows, window)?,
-                Ok(None) => return Ok(()),
-                Err(stop) => return Err(stop),
-            }
+        let most = reader.layout.round_len();
+        while reader.number < most && !reader.is_done() {
+            let window = reader.cut()?;
+            self.keep(rt, windows, window)?;
+            reader.fill(source)?;
         }
-        Err(LoadStop::NoMemory)
+        Ok(())
     }
 
     /// Puts the windows that wait, as room comes. Whether none waits any more: it gives up where there is no room, and no
@@ -174,8 +173,8 @@ impl Feed {
         self.put_marks(rt, windows, stages);
     }
 
-    /// Reads the data to their end and puts their windows, and behind them end marks for so many stages. Where it gives up
-    /// before, what was put is taken by stages that are told of the end, and what wasn't is left to the caller.
+    /// Puts the windows of a round, and behind them end marks for so many stages. Where it gives up before, what was put is
+    /// taken by stages that are told of the end, and what wasn't is left to the caller.
     pub fn put_data<R: Wait, S: Source>(
         &mut self,
         rt: &R,
@@ -187,25 +186,27 @@ impl Feed {
         requires feed { IsFeed windows.now (view self.old.pass).stages self.old }
         requires none { made_of self.old ≡ [] }
         requires layout { IsLayout reader.old.layout }
-        requires start { IsStarted reader.old.head.now reader.old.layout reader.old.room reader.old }
-        requires room { 0 < reader.old.room }
+        requires start { reader.old.number ≡ 0 }
+        requires at_end { reader.old.window.ended ≡ true → IsAtEnd (S.left source.old) }
         requires stages { stages ≤ 64 }
-        requires small { length reader.old.head.now + reader.old.room < 2 ^ 34 }
         ensures pass { IsCallers windows.now (view self.old.pass).stages self.new.pass }
         // Whatever the answer, all windows were put and all end marks, or the queue was full at a moment.
         ensures fed { IsFed stages self.new }
+        ensures numbered { AreNumbered (made_of self.new) }
+        ensures few { length (made_of self.new) ≤ round_len reader.old.layout }
         // Whatever the answer, bytes came from the source, and the rest is left.
-        ensures moved { Comes (S.left source.old) (S.left source.new) }
-        ensures ok { OnOk result ((text : List ℕ) × (read : List ℕ)
-            × HasCutAll reader.old.layout reader.old.head.now reader.old.room (S.left source.old) (S.left source.new) (made_of self.new) text read reader.new.number) }
+        ensures moved { ReachesOn (S.left source.old) (S.left source.new) reader.old.window reader.new.window }
+        ensures ok { OnOk result ((more : List ℕ)
+            × CutsOn reader.old.layout (S.left source.old) (S.left source.new) (made_of self.new) reader.new.number reader.old.window reader.new.window more) }
+        ensures same { reader.new.layout ≡ reader.old.layout }
+        ensures counted { OnOk result (length (made_of self.new) ≡ reader.new.number) }
+        ensures too_large { result ≡ Err stops.TooLarge → reach reader.new.window ≡ reader.new.window.most + 1 }
+        ensures at_end { reader.new.window.ended ≡ true → IsAtEnd (S.left source.new) }
         ensures held { S.held source.new ≡ S.held source.old }
         ensures count { S.faults source.old ≤ S.faults source.new }
         ensures failed { result ≡ Err stops.Failed → Rose (S.faults source.old) (S.faults source.new) }
-        // What may be read at most was read.
-        ensures large { result ≡ Err stops.TooLarge
-            → (read : List ℕ) × Consumes (S.left source.old) (S.left source.new) read × (length read ≡ reader.old.room) }
     {
-        let read = self.put_all(rt, windows, reader, source);
+        let read = self.put_round(rt, windows, reader, source);
         self.put_to_end(rt, windows, stages);
         windows.signals.tell_end();
         read

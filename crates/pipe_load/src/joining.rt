@@ -9,7 +9,7 @@ ghost use Rattle.pipe_load.specs.Joining.{AddsRange, AddsRanges};
 ghost use Rattle.pipe_load.specs.Layout.{stretch_len};
 
 use crate::scanner::{Kept, Scanner};
-use csv_source::{Gate, NoMemory};
+use csv_source::{Buffer, Gate, NoMemory};
 use quote_automaton::State;
 use range_scan::{Context, Joined, Part, RangeScanner, Span, View, sum_of};
 use std::alloc::Global;
@@ -59,12 +59,12 @@ impl Counted {
         Ok(())
     }
 
-    /// Joins the next window.
+    /// Joins the next window, and gives its memory back.
     pub fn add_window<G: Gate>(
         &mut self,
         scanner: &Scanner<'_, G>,
         kept: Kept,
-    ) -> Result<(), NoMemory>
+    ) -> Result<Buffer, NoMemory>
         requires kept { HasParts scanner.now.ranges.context.now scanner.now.layout kept }
         requires types { self.old.joined.table.types ≡ scanner.now.ranges.context.now.schema.types }
         requires keep { self.old.joined.book.keep ≡ scanner.now.ranges.context.now.keep }
@@ -81,6 +81,6 @@ impl Counted {
             let part = parts.pop_front();
             self.add_range(&scanner.ranges, &view, &span, part)?;
         }
-        Ok(())
+        Ok(window.into_bytes())
     }
 }

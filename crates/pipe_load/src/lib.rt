@@ -8,7 +8,6 @@
 
 mod answer;
 mod beside;
-mod ended;
 mod feeding;
 mod joining;
 mod layout;
@@ -17,6 +16,7 @@ mod order;
 pub mod pass_view;
 mod pipeline;
 mod reader;
+mod round;
 mod rule;
 mod scanner;
 mod signals;

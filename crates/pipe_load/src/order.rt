@@ -1,19 +1,18 @@
-//! All windows, joined in the order of their numbers.
-ghost use Rattle.std.specs.Prelude.{◌≡◌, ◌+◌, ◌-◌, ◌≤◌, ◌<◌, ◌*◌, ℕ, List, false, All, IfOk, length, vec_len};
+//! All windows of a round, joined in the order of their numbers.
+ghost use Rattle.std.specs.Prelude.{◌≡◌, ◌≤◌, ℕ, List, false, All, IfOk, OnOk, length, vec_len};
 ghost use Rattle.crossbeam_queue.specs.Passes.{view};
-ghost use Rattle.range_guess.specs.Cut.{range_count};
 ghost use Rattle.range_scan.specs.declared.context.Context.{Context};
 ghost use Rattle.pipe_load.specs.declared.layout.Layout.{Layout};
 ghost use Rattle.pipe_load.specs.declared.stage.Stage.{Stage as StageView};
 ghost use Rattle.pipe_load.specs.Feeding.{IsCallers, AreNumbered, made_of};
-ghost use Rattle.pipe_load.specs.Joining.{IsJoinedTo};
-ghost use Rattle.pipe_load.specs.Layout.{windows_of, stride};
+ghost use Rattle.pipe_load.specs.Joining.{AddsWindows};
 ghost use Rattle.pipe_load.specs.Scanning.{IsStage, HasScanned};
 ghost use Rattle.pipe_load.specs.Slots.{AreSlots, HasPut, HoldsAll, IsAllHeld};
 
 use crate::feeding::Feed;
 use crate::joining::Counted;
 use crate::pipeline::Pipeline;
+use crate::reader::Reader;
 use crate::slots::Slots;
 use crate::stage::Stage;
 use crate::stages::any_short;
@@ -56,32 +55,32 @@ fn take_in_hand(
 }
 
 impl<'r, 'a, R: Threads + Wait + Sync, G: Gate> Pipeline<'r, 'a, R, G> {
-    /// Takes all windows in hand, and joins them in order.
+    /// Takes all windows of a round in hand, and joins them in order behind those before it. The reader gets their memory.
     pub fn join_windows(
         &self,
         windows: &Windows,
         feed: Feed,
         stages: Vec<Stage>,
-        count: u64,
-    ) -> Result<Counted, NoMemory>
+        counted: &mut Counted,
+        reader: &mut Reader,
+    ) -> Result<(), NoMemory>
         requires feed { IsCallers windows.now (vec_len stages) feed.pass }
-        requires made { length (made_of feed) ≡ count }
+        requires made { length (made_of feed) ≡ reader.old.number }
         requires numbered { AreNumbered (made_of feed) }
         requires stages { All (IsStage windows.now) stages.items }
         requires all { All (λ stage. stage.short ≡ false → HasScanned self.now.scanner.ranges.context.now self.now.scanner.layout stage) stages.items }
-        // Where the windows are those of some data, all of these are joined.
-        ensures { (text : List ℕ) → made_of feed ≡ windows_of self.now.scanner.layout text count → length text ≤ count * stride self.now.scanner.layout
-            → (0 < count → (count - 1) * stride self.now.scanner.layout < length text)
-            → IfOk result (λ counted. IsJoinedTo self.now.scanner.ranges.context.now text self.now.scanner.layout.data_start self.now.scanner.layout.range_size
-            (range_count (length text) self.now.scanner.layout.range_size) counted) }
+        requires types { counted.old.joined.table.types ≡ self.now.scanner.ranges.context.now.schema.types }
+        requires keep { counted.old.joined.book.keep ≡ self.now.scanner.ranges.context.now.keep }
+        ensures ok { OnOk result (AddsWindows self.now.scanner.ranges.context.now self.now.scanner.layout (made_of feed) reader.old.number reader.old.number counted.old counted.new) }
+        ensures same { (reader.new.window ≡ reader.old.window) × (reader.new.number ≡ reader.old.number) × (reader.new.layout ≡ reader.old.layout) }
     {
         let alloc = self.scanner.ranges.alloc;
-        let (mut slots, mut pass) = take_in_hand(alloc, windows, feed, stages, count)?;
-        let mut counted = Counted::new(alloc, self.scanner.ranges.context)?;
-        for number in 0..count {
+        let (mut slots, mut pass) = take_in_hand(alloc, windows, feed, stages, reader.number)?;
+        for number in 0..reader.number {
             let kept = slots.fetch(self.rt, alloc, windows, &mut pass, number);
-            counted.add_window(&self.scanner, kept)?;
+            let spare = counted.add_window(&self.scanner, kept)?;
+            reader.spares.push(spare)?;
         }
-        Ok(counted)
+        Ok(())
     }
 }

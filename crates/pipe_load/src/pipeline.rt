@@ -1,4 +1,4 @@
-//! What a pipelined load works with.
+//! What a round of a pipelined load works with.
 ghost use Rattle.std.specs.Prelude.{◌≤◌};
 ghost use Rattle.pipe_load.specs.Loading.{HasReach};
 
@@ -7,7 +7,7 @@ use csv_source::Gate;
 use std::sync::Wait;
 use std::thread::Threads;
 
-/// Loads data by so many stages beside their reading.
+/// Loads a round of the data by so many stages beside their reading.
 #[derive(Drop)]
 pub struct Pipeline<'r, 'a, R: Threads + Wait + Sync, G: Gate> {
     pub rt: &'r R,

@@ -3,7 +3,7 @@ ghost use Rattle.std.specs.Prelude.{◌≡◌, ◌+◌, ◌<◌, ◌^◌, length
 ghost use Rattle.crossbeam_queue.specs.Passes.{view, IsPassOf};
 ghost use Rattle.pipe_load.specs.declared.pass_view.Role.TheVariants as roles;
 
-use csv_source::NoMemory;
+use csv_source::{Buffer, NoMemory};
 use pipe_load::{Item, Pass, Window, Windows};
 use std::alloc::Global;
 use std::process::Abort;
@@ -27,8 +27,8 @@ fn put<R: Wait + Abort>(
     ensures caller { OnOk result ((view pass.new).role ≡ roles.Caller) }
     ensures before { OnOk result ((length (view pass.new).put ≡ number + 1) × ((view pass.new).puts ≡ number + 1)) }
 {
-    let mut copy = Vec::new(alloc);
-    copy.extend_from_slice(bytes)?;
+    let mut copy = Buffer::new(alloc);
+    copy.replace(bytes)?;
     let window = Window::of(number, copy);
     assert!(rt; windows.put(rt, pass, Item::Window(window)).is_ok());
     Ok(())

@@ -1,0 +1,130 @@
+use Rattle.std.proofs.Common.{rules, ◌≡◌, ◌+◌, ◌≤◌, ℕ, List, length, sym, ap, ◌∙◌, subst, arith}
+use Rattle.window_load.specs.Window.{WindowView, reach}
+use Rattle.window_load.specs.declared.data_read.DataRead.{DataRead}
+use Rattle.range_scan.specs.declared.context.Context.{Context}
+use Rattle.pipe_load.specs.declared.layout.Layout.{Layout}
+use Rattle.pipe_load.specs.Layout.{IsLayout, lead, turned}
+use Rattle.pipe_load.specs.Loading.{AddsRound, IsAllRead, data_read}
+use Rattle.pipe_load.proofs.RoundLaws.{IsUpTo, IsUpToRound, started_cut, first_round, comes_on, round_on, turned_on, all_done, few_before}
+use Rattle.pipe_load.proofs.loading.load_rounds.Goals as goal
+
+pub loop-init : goal.loop-init
+loop-init g c =
+    let context = c.args.loader.now.context.now in
+    let before = g.S.Source.left c.args.source.now in
+    let after = g.S.Source.left c.fill.new.source in
+    let fills = c.fill.ensures.moved in
+    let same : c.fill.new.self.layout ≡ c.args.layout = fills.layout ∙ c.new-reader.ensures.layout in
+    let begun = c.in_ok-counted.ensures in
+    let cut = started_cut c.args.layout c.requires.layout before after c.args.window c.new-reader.result c.fill.new.self c.requires.first c.new-reader.ensures fills c.in_ok-fill.ensures.ok c.fill.ensures.at_end in
+    record {
+      plan = same ∙ (λ i. record c.args.layout { before = sym (ap (λ (x : Layout). x.before) same) i });
+      lies = subst IsLayout (sym same) c.requires.layout;
+      number = fills.number ∙ c.new-reader.ensures.number;
+      up_to = subst (λ (x : Layout). IsUpToRound context x c.args.window before after c.fill.new.self.window c.in_ok-counted.counted) (sym same)
+          (first_round context c.args.layout c.requires.layout c.args.window before after fills.moved.0 c.fill.new.self.window c.in_ok-counted.counted c.requires.first cut begun.0 begun.1 begun.2);
+      types = begun.0.part.types;
+      keep = ap (λ b. b.keep) begun.0.part.book;
+      held = c.fill.ensures.held;
+      count = c.fill.ensures.count;
+    }
+
+pub returns-in_err-load_round-clause-moved : goal.returns-in_err-load_round-clause-moved
+returns-in_err-load_round-clause-moved g c =
+    let inv = c.loop.invariant in
+    let on = comes_on c.args.loader.now.context.now c.loop.reader.layout inv.lies c.args.window (g.S.Source.left c.args.source.now) (g.S.Source.left c.loop.source) (g.S.Source.left c.load_round.new.source)
+    c.loop.reader.window c.load_round.new.reader.window c.loop.counted inv.up_to c.load_round.ensures.moved in (on.0, on.1)
+
+pub returns-in_err-load_round-clause-too_large : goal.returns-in_err-load_round-clause-too_large
+returns-in_err-load_round-clause-too_large g c = λ e.
+    let inv = c.loop.invariant in
+    let on = comes_on c.args.loader.now.context.now c.loop.reader.layout inv.lies c.args.window (g.S.Source.left c.args.source.now) (g.S.Source.left c.loop.source) (g.S.Source.left c.load_round.new.source)
+    c.loop.reader.window c.load_round.new.reader.window c.loop.counted inv.up_to c.load_round.ensures.moved in
+    let over : reach c.load_round.new.reader.window ≡ c.load_round.new.reader.window.most + 1 = search rules in
+    let far = on.2 in let most = on.3 in (on.0, on.1, omega (arith, over, far, most))
+
+pub returns-then-is_done-clause-moved : goal.returns-then-is_done-clause-moved
+returns-then-is_done-clause-moved g c =
+    let inv = c.loop.invariant in
+    let on = comes_on c.args.loader.now.context.now c.loop.reader.layout inv.lies c.args.window (g.S.Source.left c.args.source.now) (g.S.Source.left c.loop.source) (g.S.Source.left c.load_round.new.source)
+    c.loop.reader.window c.load_round.new.reader.window c.loop.counted inv.up_to c.load_round.ensures.moved in (on.0, on.1)
+
+pub returns-then-is_done-clause-ok : goal.returns-then-is_done-clause-ok
+returns-then-is_done-clause-ok g c =
+    let context = c.args.loader.now.context.now in
+    let l : Layout = c.loop.reader.layout in
+    let before = g.S.Source.left c.args.source.now in
+    let after = g.S.Source.left c.load_round.new.source in
+    let new = c.load_round.new in
+    let inv = c.loop.invariant in
+    let ok = c.in_ok-load_round.ensures.ok in
+    let round : AddsRound context l (g.S.Source.left c.loop.source) after new.reader.number c.loop.reader.window new.reader.window ok.0 c.loop.counted new.counted =
+    subst (λ (x : Layout). AddsRound context x (g.S.Source.left c.loop.source) after new.reader.number c.loop.reader.window new.reader.window ok.0 c.loop.counted new.counted) c.round_of.ensures.layout
+    (subst (λ (y : Context). AddsRound y c.round_of.result.scanner.layout (g.S.Source.left c.loop.source) after new.reader.number c.loop.reader.window new.reader.window ok.0 c.loop.counted new.counted)
+    c.round_of.ensures.context ok.1) in
+    let up = round_on context l inv.lies c.args.window before (g.S.Source.left c.loop.source) after new.reader.number c.loop.reader.window new.reader.window ok.0 c.loop.counted new.counted inv.up_to round in
+    let few : length new.reader.window.kept ≤ lead l new.reader.number =
+    subst (λ (x : Layout). length new.reader.window.kept ≤ lead x new.reader.number) c.load_round.ensures.same (c.is_done.ensures.none c.if-is_done.true) in
+    let done = all_done context l inv.lies c.args.window before after new.reader.number new.reader.window new.counted up few in (
+      done.0,
+      subst (λ (d : DataRead). IsAllRead context c.args.layout.data_start c.args.layout.range_size c.args.window before after done.0 d) (sym c.data_read.ensures)
+          (subst (λ (x : Layout). IsAllRead context x.data_start x.range_size c.args.window before after done.0 (data_read new.counted)) inv.plan done.1),
+    )
+
+pub turn-requires : goal.turn-requires
+turn-requires g c =
+    let context = c.args.loader.now.context.now in
+    let l : Layout = c.loop.reader.layout in
+    let before = g.S.Source.left c.args.source.now in
+    let after = g.S.Source.left c.load_round.new.source in
+    let new = c.load_round.new in
+    let inv = c.loop.invariant in
+    let ok = c.in_ok-load_round.ensures.ok in
+    let round : AddsRound context l (g.S.Source.left c.loop.source) after new.reader.number c.loop.reader.window new.reader.window ok.0 c.loop.counted new.counted =
+    subst (λ (x : Layout). AddsRound context x (g.S.Source.left c.loop.source) after new.reader.number c.loop.reader.window new.reader.window ok.0 c.loop.counted new.counted) c.round_of.ensures.layout
+    (subst (λ (y : Context). AddsRound y c.round_of.result.scanner.layout (g.S.Source.left c.loop.source) after new.reader.number c.loop.reader.window new.reader.window ok.0 c.loop.counted new.counted)
+    c.round_of.ensures.context ok.1) in
+    let up = round_on context l inv.lies c.args.window before (g.S.Source.left c.loop.source) after new.reader.number c.loop.reader.window new.reader.window ok.0 c.loop.counted new.counted inv.up_to round in
+    let few = few_before context l inv.lies c.args.window before after new.reader.number new.reader.window new.counted up c.requires.room in
+    let same : new.reader.layout.before ≡ l.before = ap (λ (x : Layout). x.before) c.load_round.ensures.same in
+    record { early = omega (arith, few, same) }
+
+pub loop-preserved : goal.loop-preserved
+loop-preserved g c =
+    let context = c.args.loader.now.context.now in
+    let l : Layout = c.loop.reader.layout in
+    let before = g.S.Source.left c.args.source.now in
+    let after = g.S.Source.left c.load_round.new.source in
+    let new = c.load_round.new in
+    let n : ℕ = new.reader.number in
+    let inv = c.loop.invariant in
+    let ok = c.in_ok-load_round.ensures.ok in
+    let round : AddsRound context l (g.S.Source.left c.loop.source) after n c.loop.reader.window new.reader.window ok.0 c.loop.counted new.counted =
+    subst (λ (x : Layout). AddsRound context x (g.S.Source.left c.loop.source) after n c.loop.reader.window new.reader.window ok.0 c.loop.counted new.counted) c.round_of.ensures.layout
+    (subst (λ (y : Context). AddsRound y c.round_of.result.scanner.layout (g.S.Source.left c.loop.source) after n c.loop.reader.window new.reader.window ok.0 c.loop.counted new.counted)
+    c.round_of.ensures.context ok.1) in
+    let up = round_on context l inv.lies c.args.window before (g.S.Source.left c.loop.source) after n c.loop.reader.window new.reader.window ok.0 c.loop.counted new.counted inv.up_to round in
+    let few = few_before context l inv.lies c.args.window before after n new.reader.window new.counted up c.requires.room in
+    let turn = c.turn.ensures in
+    let same : c.turn.new.self.layout ≡ turned l n = turn.layout ∙ ap (λ (x : Layout). turned x n) c.load_round.ensures.same in
+    let lies = inv.lies in
+    record {
+      plan = same ∙ ap (λ (x : Layout). turned x n) inv.plan ∙ (λ i. record c.args.layout { before = sym (ap (λ (x : Layout). x.before) same) i });
+      lies = subst IsLayout (sym same) record {
+        some = lies.some;
+        ranges = lies.ranges;
+        start = lies.start;
+        size = lies.size;
+        few = lies.few;
+        short = lies.short;
+        far = lies.far;
+        early = omega (arith, few);
+      };
+      number = turn.number;
+      up_to = subst (λ (x : Layout). IsUpToRound context x c.args.window before after c.turn.new.self.window new.counted) (sym same)
+          (subst (λ (v : WindowView). IsUpToRound context (turned l n) c.args.window before after v new.counted) (sym turn.window) (turned_on context l inv.lies c.args.window before after n new.reader.window new.counted up));
+      types = round.adds.types;
+      keep = round.adds.keep;
+      held = c.load_round.ensures.held ∙ inv.held;
+      count = let a = c.load_round.ensures.count in let b = inv.count in omega (arith, a, b);
+    }

@@ -1,0 +1,16 @@
+use Rattle.std.proofs.Common.{◌≡◌, ◌≤◌}
+use Rattle.pipe_load.specs.Layout.{IsLayout}
+use Rattle.pipe_load.proofs.RoundLaws.{IsUpToRound}
+use Rattle.pipe_load.proofs.loading.load_rounds.Given as goal
+
+abbrev pub invariant-loop : goal.invariant-loop
+invariant-loop g l = record {
+  plan : l.reader.layout ≡ record l.fn.layout { before = l.reader.layout.before };
+  lies : IsLayout l.reader.layout;
+  number : l.reader.number ≡ 0;
+  up_to : IsUpToRound l.loader.context.now l.reader.layout l.fn.window (g.S.Source.left l.fn.source) (g.S.Source.left l.source) l.reader.window l.counted;
+  types : l.counted.joined.table.types ≡ l.loader.context.now.schema.types;
+  keep : l.counted.joined.book.keep ≡ l.loader.context.now.keep;
+  held : g.S.Source.held l.source ≡ g.S.Source.held l.fn.source;
+  count : g.S.Source.faults l.fn.source ≤ g.S.Source.faults l.source;
+}

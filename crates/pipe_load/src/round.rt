@@ -1,0 +1,90 @@
+//! A round of a pipelined load.
+ghost use Rattle.std.specs.Prelude.{◌≡◌, ◌+◌, ◌≤◌, ◌<◌, ℕ, List, true, OnOk, Err, length};
+ghost use Rattle.std.specs.Io.KnownBytes.{IsAtEnd};
+ghost use Rattle.csv_source.specs.Causes.{Rose};
+ghost use Rattle.range_scan.specs.Scanned.{HasColumns};
+ghost use Rattle.window_load.specs.Window.{reach, ReachesOn};
+ghost use Rattle.window_load.specs.declared.stop.LoadStop.TheVariants as stops;
+ghost use Rattle.pipe_load.specs.Layout.{IsLayout, round_len};
+ghost use Rattle.pipe_load.specs.Loading.{HasReach, AddsRound};
+
+use crate::feeding::Feed;
+use crate::joining::Counted;
+use crate::pipeline::Pipeline;
+use crate::reader::Reader;
+use crate::scanner::Scanner;
+use crate::stages::stages_of;
+use crate::windows::Windows;
+use csv_source::{Gate, Source};
+use range_scan::RangeScanner;
+use std::collections::VecDeque;
+use std::sync::Wait;
+use std::thread::Threads;
+use window_load::{DataLoader, LoadStop};
+
+/// What the round works with that the reader is at.
+pub fn round_of<'r, R: Threads + Wait + Sync, G: Gate>(
+    loader: &DataLoader<'r, R, G>,
+    reader: &Reader,
+) -> Pipeline<'r, 'r, R, G>
+    requires layout { IsLayout reader.now.layout }
+    requires reach { HasReach loader.now.context.now reader.now.layout }
+    requires fits { HasColumns loader.now.context.now.schema }
+    requires threads { (1 ≤ loader.now.threads) × (loader.now.threads ≤ 64) }
+    ensures layout { result.scanner.layout ≡ reader.now.layout }
+    ensures context { result.scanner.ranges.context.now ≡ loader.now.context.now }
+{
+    let ranges = RangeScanner {
+        alloc: loader.alloc,
+        context: loader.context,
+        gate: loader.gate,
+    };
+    Pipeline {
+        rt: loader.rt,
+        scanner: Scanner {
+            ranges,
+            layout: reader.layout,
+        },
+        threads: loader.threads,
+    }
+}
+
+impl<'r, 'a, R: Threads + Wait + Sync, G: Gate> Pipeline<'r, 'a, R, G> {
+    /// Loads the round that the reader is at, and joins it to what was joined before. Behind it the reader has what the next
+    /// round begins with, or all that came.
+    pub fn load_round<S: Source + Send>(
+        &self,
+        reader: &mut Reader,
+        counted: &mut Counted,
+        source: &mut S,
+    ) -> Result<(), LoadStop>
+        requires layout { reader.old.layout ≡ self.now.scanner.layout }
+        requires start { reader.old.number ≡ 0 }
+        requires at_end { reader.old.window.ended ≡ true → IsAtEnd (S.left source.old) }
+        requires types { counted.old.joined.table.types ≡ self.now.scanner.ranges.context.now.schema.types }
+        requires keep { counted.old.joined.book.keep ≡ self.now.scanner.ranges.context.now.keep }
+        ensures moved { ReachesOn (S.left source.old) (S.left source.new) reader.old.window reader.new.window }
+        ensures ok { OnOk result ((more : List ℕ) × AddsRound self.now.scanner.ranges.context.now self.now.scanner.layout (S.left source.old) (S.left source.new)
+            reader.new.number reader.old.window reader.new.window more counted.old counted.new) }
+        ensures same { reader.new.layout ≡ reader.old.layout }
+        ensures few { OnOk result (reader.new.number ≤ round_len reader.old.layout) }
+        ensures too_large { result ≡ Err stops.TooLarge → reach reader.new.window ≡ reader.new.window.most + 1 }
+        ensures at_end { reader.new.window.ended ≡ true → IsAtEnd (S.left source.new) }
+        ensures held { S.held source.new ≡ S.held source.old }
+        ensures count { S.faults source.old ≤ S.faults source.new }
+        ensures failed { result ≡ Err stops.Failed → Rose (S.faults source.old) (S.faults source.new) }
+    {
+        let alloc = self.scanner.ranges.alloc;
+        let (windows, mut pass) = Windows::new(alloc)?;
+        let mut stages = stages_of(alloc, &windows, &mut pass, self.threads)?;
+        let mut feed = Feed {
+            pass,
+            waiting: VecDeque::new(alloc),
+        };
+        match self.read_beside(&windows, reader, source, &mut feed, &mut stages) {
+            Ok(()) => {}
+            Err(stop) => return Err(stop),
+        }
+        Ok(self.join_windows(&windows, feed, stages, counted, reader)?)
+    }
+}
