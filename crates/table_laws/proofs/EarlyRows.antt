@@ -3,87 +3,16 @@ use Rattle.std.proofs.Common.{◌≡◌, ◌≢◌, ℕ, zero, suc, ◌+◌, ◌
 use Rattle.std.specs.Prelude.{filter, nat_lt, ◌==◌, find, unwrap_or, slice_index}
 use Rattle.std.specs.List.{range_with_len}
 use Rattle.std.proofs.lemmas.Bool.{ne_eqb, cond_both}
-use Rattle.byte_classes.specs.declared.class.Class.{Class}
-use Rattle.byte_classes.specs.declared.class.Class.TheVariants as class
 use Rattle.byte_classes.specs.Dialect.{Marks}
 use Rattle.byte_classes.specs.Class.{class_of}
-use Rattle.quote_automaton.specs.declared.state.State.{State}
-use Rattle.quote_automaton.specs.declared.state.State.TheVariants.{RowStart, FieldStart, Plain, Quoted, Escape, QuoteSeen, Broken, CrSeen, Comment}
-use Rattle.quote_automaton.specs.Automaton.{next, state_at, doubles_quotes}
-use Rattle.quote_automaton.specs.Rows.{begins_row, ends_row, is_row_start, is_row_end, row_starts, row_end}
+use Rattle.quote_automaton.specs.declared.state.State.TheVariants.{RowStart}
+use Rattle.quote_automaton.specs.Automaton.{next, state_at}
+use Rattle.quote_automaton.specs.Rows.{begins_row, is_row_start, is_row_end, row_starts, row_end}
+use Rattle.quote_automaton.proofs.RowBegins.{begins_behind_end}
 use Rattle.row_fields.proofs.TextQuotes.{state_at-next}
 use Rattle.dialect_rank.specs.Sampled.{Span, filled_rows, ends_at}
 
 -- ---- a row begins behind the end of the row before it
-
-never_begins : (t : Bool) (later : Class) → begins_row (cond t Quoted Broken) later ≡ true → ⊥
-never_begins true later h = let no : ⊥ = cc in no
-never_begins false later h = let no : ⊥ = cc in no
-
-begins_behind_end : (d : Marks) (s : State) (c later : Class) → begins_row (next d s c) later ≡ true → ends_row s c ≡ true
-begins_behind_end d RowStart class.Lf later h = refl
-begins_behind_end d RowStart class.Cr later h = refl
-begins_behind_end d RowStart class.Delim later h = absurd (let no : ⊥ = cc in no)
-begins_behind_end d RowStart class.Quote later h = absurd (let no : ⊥ = cc in no)
-begins_behind_end d RowStart class.Escape later h = absurd (let no : ⊥ = cc in no)
-begins_behind_end d RowStart class.Comment later h = absurd (let no : ⊥ = cc in no)
-begins_behind_end d RowStart class.Other later h = absurd (let no : ⊥ = cc in no)
-begins_behind_end d FieldStart class.Lf later h = refl
-begins_behind_end d FieldStart class.Cr later h = refl
-begins_behind_end d FieldStart class.Delim later h = absurd (let no : ⊥ = cc in no)
-begins_behind_end d FieldStart class.Quote later h = absurd (let no : ⊥ = cc in no)
-begins_behind_end d FieldStart class.Escape later h = absurd (let no : ⊥ = cc in no)
-begins_behind_end d FieldStart class.Comment later h = absurd (let no : ⊥ = cc in no)
-begins_behind_end d FieldStart class.Other later h = absurd (let no : ⊥ = cc in no)
-begins_behind_end d Plain class.Lf later h = refl
-begins_behind_end d Plain class.Cr later h = refl
-begins_behind_end d Plain class.Delim later h = absurd (let no : ⊥ = cc in no)
-begins_behind_end d Plain class.Quote later h = absurd (let no : ⊥ = cc in no)
-begins_behind_end d Plain class.Escape later h = absurd (let no : ⊥ = cc in no)
-begins_behind_end d Plain class.Comment later h = absurd (let no : ⊥ = cc in no)
-begins_behind_end d Plain class.Other later h = absurd (let no : ⊥ = cc in no)
-begins_behind_end d Quoted class.Lf later h = absurd (let no : ⊥ = cc in no)
-begins_behind_end d Quoted class.Cr later h = absurd (let no : ⊥ = cc in no)
-begins_behind_end d Quoted class.Delim later h = absurd (let no : ⊥ = cc in no)
-begins_behind_end d Quoted class.Quote later h = absurd (let no : ⊥ = cc in no)
-begins_behind_end d Quoted class.Escape later h = absurd (let no : ⊥ = cc in no)
-begins_behind_end d Quoted class.Comment later h = absurd (let no : ⊥ = cc in no)
-begins_behind_end d Quoted class.Other later h = absurd (let no : ⊥ = cc in no)
-begins_behind_end d Escape class.Lf later h = absurd (let no : ⊥ = cc in no)
-begins_behind_end d Escape class.Cr later h = absurd (let no : ⊥ = cc in no)
-begins_behind_end d Escape class.Delim later h = absurd (let no : ⊥ = cc in no)
-begins_behind_end d Escape class.Quote later h = absurd (let no : ⊥ = cc in no)
-begins_behind_end d Escape class.Escape later h = absurd (let no : ⊥ = cc in no)
-begins_behind_end d Escape class.Comment later h = absurd (let no : ⊥ = cc in no)
-begins_behind_end d Escape class.Other later h = absurd (let no : ⊥ = cc in no)
-begins_behind_end d QuoteSeen class.Lf later h = refl
-begins_behind_end d QuoteSeen class.Cr later h = refl
-begins_behind_end d QuoteSeen class.Delim later h = absurd (let no : ⊥ = cc in no)
-begins_behind_end d QuoteSeen class.Quote later h = absurd (never_begins (doubles_quotes d) later h)
-begins_behind_end d QuoteSeen class.Escape later h = absurd (let no : ⊥ = cc in no)
-begins_behind_end d QuoteSeen class.Comment later h = absurd (let no : ⊥ = cc in no)
-begins_behind_end d QuoteSeen class.Other later h = absurd (let no : ⊥ = cc in no)
-begins_behind_end d Broken class.Lf later h = refl
-begins_behind_end d Broken class.Cr later h = refl
-begins_behind_end d Broken class.Delim later h = absurd (let no : ⊥ = cc in no)
-begins_behind_end d Broken class.Quote later h = absurd (let no : ⊥ = cc in no)
-begins_behind_end d Broken class.Escape later h = absurd (let no : ⊥ = cc in no)
-begins_behind_end d Broken class.Comment later h = absurd (let no : ⊥ = cc in no)
-begins_behind_end d Broken class.Other later h = absurd (let no : ⊥ = cc in no)
-begins_behind_end d CrSeen class.Lf later h = refl
-begins_behind_end d CrSeen class.Cr later h = refl
-begins_behind_end d CrSeen class.Delim later h = absurd (let no : ⊥ = cc in no)
-begins_behind_end d CrSeen class.Quote later h = absurd (let no : ⊥ = cc in no)
-begins_behind_end d CrSeen class.Escape later h = absurd (let no : ⊥ = cc in no)
-begins_behind_end d CrSeen class.Comment later h = absurd (let no : ⊥ = cc in no)
-begins_behind_end d CrSeen class.Other later h = absurd (let no : ⊥ = cc in no)
-begins_behind_end d Comment class.Lf later h = refl
-begins_behind_end d Comment class.Cr later h = refl
-begins_behind_end d Comment class.Delim later h = absurd (let no : ⊥ = cc in no)
-begins_behind_end d Comment class.Quote later h = absurd (let no : ⊥ = cc in no)
-begins_behind_end d Comment class.Escape later h = absurd (let no : ⊥ = cc in no)
-begins_behind_end d Comment class.Comment later h = absurd (let no : ⊥ = cc in no)
-begins_behind_end d Comment class.Other later h = absurd (let no : ⊥ = cc in no)
 
 end_before : (d : Marks) (bytes : List ℕ) (q : ℕ) → q < length bytes → is_row_start d RowStart bytes (suc q) ≡ true → is_row_end d RowStart bytes q ≡ true
 end_before d bytes q inside starts =

@@ -4,30 +4,18 @@ use Rattle.std.specs.Prelude.{filter, nat_lt}
 use Rattle.std.proofs.lemmas.Bool.{ne_eqb, lt-ltb}
 use Rattle.std.proofs.Math.Bool.{and-false}
 use Rattle.load_options.specs.Texts.{is_empty}
-use Rattle.byte_classes.specs.declared.class.Class.{Class}
-use Rattle.byte_classes.specs.declared.class.Class.TheVariants as class
 use Rattle.byte_classes.specs.Dialect.{Marks}
 use Rattle.byte_classes.specs.Class.{class_of}
 use Rattle.quote_automaton.specs.declared.state.State.{State}
 use Rattle.quote_automaton.specs.declared.state.State.TheVariants.{RowStart}
 use Rattle.quote_automaton.specs.Automaton.{next, step, state_after}
-use Rattle.quote_automaton.specs.Rows.{begins_row, row_starts, row_end}
+use Rattle.quote_automaton.specs.Rows.{row_starts, row_end}
 use Rattle.quote_automaton.proofs.RowLaws.{row_starts-cons, row_end-cons_zero}
-use Rattle.row_fields.proofs.FieldReading.{is_row_state, InRow}
 use Rattle.row_fields.proofs.RowReading.{RowRead, not_inside}
+use Rattle.row_fields.proofs.TextReading.{begins_in_row, row_end-in_row}
 use Rattle.dialect_rank.specs.Sampled.{Span, filled_rows, is_last_cut, without_last, sampled_spans}
 use Rattle.csv_sniffer.specs.Sniffed.{has_whole_row}
 use Rattle.table_laws.proofs.EarlyRows.{EndEarly, early-take, without_last-early, to_span, early-rows}
-
--- a row's text has no end of a row
-row_end-in_row : (d : Marks) (s : State) (xs ys : List ℕ) → InRow d s xs → row_end d s (xs ++ ys) 0 ≡ length xs + row_end d (state_after d s xs) ys 0
-row_end-in_row d s [] ys k = let same : row_end d s ys 0 ≡ 0 + row_end d s ys 0 = omega arith in same
-row_end-in_row d s (x ∷ xs) ys k =
-    let rest : ℕ = row_end d (state_after d (step d s x) xs) ys 0 in
-    let next_one : suc (length xs + rest) ≡ suc (length xs) + rest = omega arith in
-    row_end-cons_zero d s x (xs ++ ys)
-    ∙ (λ i. cond (k.0.no_end i) 0 (suc (row_end-in_row d (step d s x) xs ys k.1 i)))
-    ∙ next_one
 
 -- the first row ends before its LF
 first_end : (d : Marks) (row more : List ℕ) → RowRead d RowStart row → row_end d RowStart (row ++ 10 ∷ more) 0 ≡ length row
@@ -36,16 +24,6 @@ first_end d row more r =
     let lf : row_end d t (10 ∷ more) 0 ≡ 0 = row_end-cons_zero d t 10 more ∙ ap (λ q. cond (not q) 0 (suc (row_end d (step d t 10) more 0))) (not_inside t r.closed) in
     let same : length row + 0 ≡ length row = omega arith in
     row_end-in_row d RowStart row (10 ∷ more) r.inside ∙ ap (λ n. length row + n) lf ∙ same
-
--- a byte that leads into a row begins it
-begins_in_row : (d : Marks) (c : Class) → is_row_state (next d RowStart c) ≡ true → begins_row RowStart c ≡ true
-begins_in_row d class.Lf h = absurd (let no : ⊥ = cc in no)
-begins_in_row d class.Cr h = absurd (let no : ⊥ = cc in no)
-begins_in_row d class.Delim h = refl
-begins_in_row d class.Quote h = refl
-begins_in_row d class.Escape h = refl
-begins_in_row d class.Comment h = absurd (let no : ⊥ = cc in no)
-begins_in_row d class.Other h = refl
 
 -- the first filled row of a sample that begins with a row and its LF
 first_filled : (d : Marks) (row more : List ℕ) → row ≢ [] → RowRead d RowStart row → (spans : List Span) × (filled_rows d (row ++ 10 ∷ more) ≡ (0, length row) ∷ spans)
