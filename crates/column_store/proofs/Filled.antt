@@ -2,22 +2,22 @@
 use Rattle.std.proofs.Common.{◌≡◌, ◌≢◌, ℕ, zero, suc, ◌+◌, ◌-◌, ◌^◌, ◌<◌, ◌≤◌, refl, sym, ap, ◌∙◌, subst, arith, List, [], ◌∷◌, ◌++◌, length, get_or, set, take, map, inl, inr, Result, Ok, Err, true, false, Option, Some, None, is_some, append-nil}
 use Rattle.std.specs.Prelude.{All, OnErr, OnOk, option_and_then, slice_get}
 use Rattle.std.specs.Option.{option_to_list}
-use Rattle.std.proofs.lemmas.Bool.{cases_eq, cases_lt, and_parts, false≢true}
-use Rattle.std.proofs.lemmas.List.{length-append, length-map, length-set, length-take, get_or_default, get_or-set_same, get_or-set_other, get_or_push, get_or-map, map-set, map_push, take-take, take_more_set, take-set, take_all, take_at, take_more}
-use Rattle.std.proofs.lemmas.Option.{get_or_from_slice_get, none-some, same_Some, slice_get-get_or, slice_get_within}
-use Rattle.value_types.specs.OfType.{fits, fit_all, typed_cell}
+use Rattle.std.proofs.lemmas.Bool.{cases_eq, cases_lt, false≢true}
+use Rattle.std.proofs.lemmas.List.{length-map, length-set, length-take, get_or_default, get_or-set_same, get_or-set_other, get_or_push, get_or-map, map-set, map_push, take-take, take_more_set, take-set, take_all, take_at}
+use Rattle.std.proofs.lemmas.Option.{slice_get-get_or}
+use Rattle.value_types.specs.OfType.{fits, typed_cell}
 use Rattle.value_types.specs.declared.types.ColumnType.{ColumnType}
 use Rattle.value_types.specs.Datum.{Datum, null}
 use Rattle.column_store.specs.ChunkView.{ChunkView}
 use Rattle.column_store.specs.declared.column.Column.{Column}
 use Rattle.column_store.specs.declared.column.Column.TheVariants as columns
 use Rattle.column_store.specs.ColumnCells.{cells_of, room_of, type_of}
-use Rattle.column_store.specs.ColumnChanges.{EachColumn, IsAppended, IsCut, KeepsCells, KeepsFront}
+use Rattle.column_store.specs.ColumnChanges.{EachColumn, IsCut, KeepsCells, KeepsFront}
 use Rattle.column_store.specs.IsFilled.{IsFilled}
 use Rattle.value_types.specs.Views.{row_at}
 use Rattle.column_store.specs.RowsOfColumns.{rows_of, FitsColumn}
 use Rattle.column_store.proofs.Options.{length-options}
-use Rattle.column_store.proofs.Rows.{joined_rows, rows_same, maps_same, rows_of-fewer}
+use Rattle.column_store.proofs.Rows.{rows_same, maps_same, rows_of-fewer}
 
 -- ---- a column
 
