@@ -10,6 +10,7 @@ use column_store::Table;
 use csv_source::NoMemory;
 use csv_writer::{write_rows, write_table};
 use std::alloc::Global;
+use text_pieces::Draft;
 use value_types::{Cell, Cells, Names};
 
 const ROWS: &[u8] =
@@ -103,9 +104,10 @@ fn a_table_is_written_whatever_the_threads(rt: HostRuntime) -> Result<(), NoMemo
 fn rows_across_chunks_are_written_behind_others(rt: HostRuntime) -> Result<(), NoMemory> {
     let table = two_chunks(rt.alloc())?;
     assert!(rt; table.rows() == 14);
-    let mut text = Vec::new(rt.alloc());
-    text.extend_from_slice(b"before\n")?;
+    let mut text = Draft::new(rt.alloc());
+    text.append(b"before\n")?;
     write_rows(&table, 6, 9, &mut text)?;
+    let text = text.into_text();
     let expected = b"before\n7,\"sixteen bytes or more, and a comma\"\n1,\"a,b\"\n,\"\"\n";
     assert!(rt; text.as_slice() == expected.as_slice());
     Ok(())
