@@ -1,5 +1,5 @@
 -- The rows of a table on their way into pages.
-use Rattle.std.specs.Prelude.{ℕ, ◌+◌, List, [], ◌++◌, length, flat_map, map}
+use Rattle.std.specs.Prelude.{ℕ, ◌+◌, List, [], ◌∷◌, ◌++◌, length, flat_map, map}
 use Rattle.sqlite_value.specs.declared.value.Value.{Value}
 use Rattle.sqlite_value.specs.Order.{Row}
 use Rattle.value_types.specs.Datum.{Datum}
@@ -40,6 +40,10 @@ with_value w value = record
 abbrev pub with_values : Written → Row → Written
 with_values w row = record
     { rows = w.rows; next = w.next; values = record { types = w.values.types ++ flat_map type_bytes row; body = w.values.body ++ flat_map value_bytes row } }
+
+-- with the row under way laid out, and its values still at hand
+abbrev pub with_laid_row : Written → Written
+with_laid_row w = record w { rows = record w.rows { laid = with_rows w.rows.base w.rows.laid w.next (record_of w.values ∷ []) } }
 
 -- with rows more, by their records
 abbrev pub with_records : Written → List (List ℕ) → Written

@@ -1,5 +1,5 @@
 // Rows on their way into pages.
-ghost use Rattle.std.specs.Prelude.{◌≡◌, ◌∷◌, [], pos, OnOk};
+ghost use Rattle.std.specs.Prelude.{◌≡◌, ◌<◌, ◌∷◌, [], if◌then◌else◌, length, pos, OnOk};
 ghost use Rattle.sqlite_value.specs.declared.value.Value.TheVariants as stored;
 ghost use Rattle.value_types.specs.Spelled.{IsSpelled, IsSpelledCell};
 ghost use Rattle.std.specs.Str.{is_utf8};
@@ -7,14 +7,26 @@ ghost use Rattle.value_types.specs.ValueText.{value_text};
 ghost use Rattle.value_types.specs.Datum.{datum_of};
 ghost use Rattle.db_records.specs.Record.{IsWritable};
 ghost use Rattle.db_writer.specs.Stored.{stored_cell, stored_value, text_or_blob};
-ghost use Rattle.db_writer.specs.Written.{nothing_written, record_of, with_records, with_value};
+ghost use Rattle.db_writer.specs.Written.{nothing_written, record_of, with_laid_row, with_records, with_value};
 
+use column_store::Chunk;
 use csv_source::NoMemory;
 use db_pages::Leaves;
-use db_records::{push_blob, push_integer, push_null, push_record, push_text};
+use db_records::{
+    push_blob, push_integer, push_null, push_record, push_text, push_text_type, push_truth,
+};
 use std::alloc::Global;
 use std::marker::Model;
 use value_types::{Cell, Value, write_value};
+
+/// About how many bytes a cell takes in a leaf.
+const CELL_ROOM: usize = 16;
+
+/// From so many bytes of types on a record is put together before it is laid out.
+const FEW_TYPES: usize = 127;
+
+/// A record of fewer bytes of types and values than so many stays whole in its cell.
+const MOST_WHOLE: usize = 4061;
 
 /// The rows of a table that are laid out in leaves, the rowid of the next one, and its values so far, in memory that is used
 /// again for each row. After an error it may only be let go.
@@ -24,7 +36,6 @@ pub(crate) struct RowWriter {
     next: u64,
     types: Vec<u8>,
     body: Vec<u8>,
-    text: Vec<u8>,
     bytes: Vec<u8>,
 }
 
@@ -53,9 +64,24 @@ impl RowWriter {
             next: first,
             types: Vec::new(alloc),
             body: Vec::new(alloc),
-            text: Vec::new(alloc),
             bytes: Vec::new(alloc),
         }
+    }
+
+    /// Makes room for the leaves of about so many cells more.
+    pub(crate) fn reserve(&mut self, cells: usize)
+        ensures { self.new ≡ self.old }
+    {
+        self.leaves.reserve(cells.saturating_mul(CELL_ROOM));
+    }
+
+    /// Makes room for the values of a row to come, and fetches its cells.
+    #[inline(always)]
+    pub(crate) fn make_room(&mut self, chunk: &Chunk, row: usize)
+        requires { row < length chunk.now.rows }
+        ensures { self.new ≡ self.old }
+    {
+        chunk.make_room(&mut self.body, row);
     }
 
     /// Appends NULL.
@@ -72,6 +98,14 @@ impl RowWriter {
         ensures ok { OnOk result (self.new ≡ with_value self.old (stored.Int number)) }
     {
         push_integer(&mut self.types, &mut self.body, number)
+    }
+
+    /// Appends a truth, as 0 or 1.
+    #[inline(always)]
+    fn push_truth(&mut self, truth: bool) -> Result<(), NoMemory>
+        ensures ok { OnOk result (self.new ≡ with_value self.old (stored.Int (if truth then pos 1 else pos 0))) }
+    {
+        push_truth(&mut self.types, truth)
     }
 
     /// Appends a number. One of 2^63 and more isn't counted.
@@ -110,9 +144,9 @@ impl RowWriter {
         requires { IsSpelled value }
         ensures ok { OnOk result (self.new ≡ with_value self.old (stored.Text (value_text value))) }
     {
-        self.text.clear();
-        write_value(&value, &mut self.text)?;
-        push_text(&mut self.types, &mut self.body, &self.text)
+        let before = self.body.len();
+        write_value(&value, &mut self.body)?;
+        push_text_type(&mut self.types, self.body.len() - before)
     }
 
     /// Appends a value of a column: a date or a time as its text.
@@ -122,7 +156,7 @@ impl RowWriter {
         ensures ok { OnOk result (self.new ≡ with_value self.old (stored_value value)) }
     {
         match value {
-            Value::Bool(truth) => self.push_integer(i64::from(truth)),
+            Value::Bool(truth) => self.push_truth(truth),
             Value::Int(number) => self.push_integer(number),
             Value::Date(_) => self.push_printed(value),
             Value::Time(_) => self.push_printed(value),
@@ -143,16 +177,27 @@ impl RowWriter {
         }
     }
 
+    /// Lays out the row under way. A record of few types that stays whole is put together in its leaf alone.
+    #[inline(always)]
+    fn lay_row(&mut self) -> Result<(), NoMemory>
+        ensures ok { OnOk result (self.new ≡ with_laid_row self.old) }
+    {
+        if self.types.len() < FEW_TYPES && self.body.len() < MOST_WHOLE - self.types.len() {
+            return self.leaves.push_values(self.next, &self.types, &self.body);
+        }
+        self.bytes.clear();
+        push_record(&mut self.bytes, &self.types, &self.body)?;
+        self.leaves.push(self.next, &self.bytes)
+    }
+
     /// Ends the row under way. More rows than can be counted aren't taken.
     #[inline(always)]
     pub(crate) fn end_row(&mut self) -> Result<(), NoMemory>
         ensures ok { OnOk result (self.new ≡ with_records self.old (record_of self.old.values ∷ [])) }
     {
-        self.bytes.clear();
-        push_record(&mut self.bytes, &self.types, &self.body)?;
+        self.lay_row()?;
         self.types.clear();
         self.body.clear();
-        self.leaves.push(self.next, &self.bytes)?;
         self.next = self.next.checked_add(1).ok_or(NoMemory)?;
         Ok(())
     }

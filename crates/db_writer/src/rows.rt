@@ -37,6 +37,7 @@ fn push_part(writer: &mut RowWriter, chunk: &Chunk, from: usize, to: usize) -> R
     let rows = chunk.rows();
     let first = from.min(rows);
     for row in first..to.min(rows) {
+        writer.make_room(chunk, row);
         push_row(writer, chunk, row)?;
     }
     Ok(())
@@ -75,6 +76,7 @@ pub(crate) fn write_rows(
 {
     let first = (from as u64).checked_add(1).ok_or(NoMemory)?;
     let mut writer = RowWriter::new(alloc, base, first);
+    writer.reserve((to - from).saturating_mul(table.columns()));
     push_rows(&mut writer, table, from, to)?;
     Ok(writer.into_leaves())
 }
