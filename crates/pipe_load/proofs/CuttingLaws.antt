@@ -1,19 +1,18 @@
 -- The windows that are cut so far stay those of the data as more bytes come.
-use Rattle.std.proofs.Common.{◌≡◌, ℕ, zero, suc, ◌+◌, ◌-◌, ◌*◌, ◌<◌, ◌≤◌, ◌⊎◌, inl, inr, min, Bool, true, false, List, [], ◌∷◌, ◌++◌, length, map, take, drop, refl, sym, ap, ◌∙◌, subst, arith, append_assoc, length-append, length-drop}
+use Rattle.std.proofs.Common.{◌≡◌, ℕ, zero, suc, ◌+◌, ◌-◌, ◌*◌, ◌<◌, ◌≤◌, ◌⊎◌, inl, inr, min, true, List, [], ◌∷◌, ◌++◌, length, map, take, drop, refl, sym, ap, ◌∙◌, subst, arith, append_assoc, length-append, length-drop}
 use Rattle.std.specs.Prelude.{Option, slice_range}
 use Rattle.std.specs.Io.KnownBytes.{IsAtEnd, Consumes}
 use Rattle.std.specs.List.{range_with_len}
 use Rattle.std.proofs.KnownBytes.{Consumes-trans, Consumes-nil}
 use Rattle.std.proofs.Math.Nat.{mul-le-mul_right}
-use Rattle.std.proofs.lemmas.List.{append-nil, take-append-le, take_all}
+use Rattle.std.proofs.lemmas.List.{append-nil, take-append-le}
 use Rattle.std.proofs.lemmas.List.FromFn.{map-range_with_len_more}
-use Rattle.window_load.specs.Window.{WindowView, reach, behind_front, IsFilled}
+use Rattle.window_load.specs.Window.{WindowView, behind_front, IsFilled}
 use Rattle.window_load.proofs.WindowSteps.{none_behind}
 use Rattle.pipe_load.specs.declared.layout.Layout.{Layout}
-use Rattle.pipe_load.specs.declared.reader.Reader.{Reader}
 use Rattle.pipe_load.specs.declared.window.Window.{Window}
 use Rattle.pipe_load.specs.Layout.{IsLayout, stride, lead, want, window_start, window_of, windows_of, turned}
-use Rattle.pipe_load.specs.Reading.{Fills, IsCut, IsTurned, HasCut, CutsOn}
+use Rattle.pipe_load.specs.Reading.{HasCut, CutsOn}
 use Rattle.pipe_load.proofs.Lists.{drop_more}
 
 -- two functions that agree on numbers from a on agree on the list of them

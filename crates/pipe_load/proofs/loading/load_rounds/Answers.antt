@@ -1,11 +1,11 @@
-use Rattle.std.proofs.Common.{rules, ◌≡◌, ◌+◌, ◌≤◌, ℕ, List, length, sym, ap, ◌∙◌, subst, arith}
+use Rattle.std.proofs.Common.{rules, ◌≡◌, ◌+◌, ◌≤◌, ℕ, length, sym, ap, ◌∙◌, subst, arith}
 use Rattle.window_load.specs.Window.{WindowView, reach}
 use Rattle.window_load.specs.declared.data_read.DataRead.{DataRead}
 use Rattle.range_scan.specs.declared.context.Context.{Context}
 use Rattle.pipe_load.specs.declared.layout.Layout.{Layout}
 use Rattle.pipe_load.specs.Layout.{IsLayout, lead, turned}
 use Rattle.pipe_load.specs.Loading.{AddsRound, IsAllRead, data_read}
-use Rattle.pipe_load.proofs.RoundLaws.{IsUpTo, IsUpToRound, started_cut, first_round, comes_on, round_on, turned_on, all_done, few_before}
+use Rattle.pipe_load.proofs.RoundLaws.{IsUpToRound, started_cut, first_round, comes_on, round_on, turned_on, all_done, few_before}
 use Rattle.pipe_load.proofs.loading.load_rounds.Goals as goal
 
 pub loop-init : goal.loop-init
