@@ -7,7 +7,7 @@ ghost use Rattle.window_load.specs.Window.{reach, ReachesOn};
 ghost use Rattle.window_load.specs.declared.stop.LoadStop.TheVariants as stops;
 ghost use Rattle.pipe_load.specs.Feeding.{AreNumbered, IsCallers, IsFeed, IsFed, made_of};
 ghost use Rattle.pipe_load.specs.Layout.{IsLayout, round_len};
-ghost use Rattle.pipe_load.specs.Reading.{CutsOn};
+ghost use Rattle.pipe_load.specs.Reading.{CutsOn, EndsRound};
 ghost use Rattle.pipe_load.specs.Scanning.{IsStage, HasScanned, HasEnded};
 
 use crate::feeding::Feed;
@@ -57,6 +57,7 @@ impl<'r, 'a, R: Threads + Wait + Sync, G: Gate> Pipeline<'r, 'a, R, G> {
             × CutsOn reader.old.layout (S.left source.old) (S.left source.new) (made_of feed.new) reader.new.number reader.old.window reader.new.window more) }
         ensures same { reader.new.layout ≡ reader.old.layout }
         ensures counted { OnOk result (length (made_of feed.new) ≡ reader.new.number) }
+        ensures whole { OnOk result (EndsRound reader.old.layout reader.new.number reader.new.window) }
         ensures too_large { result ≡ Err stops.TooLarge → reach reader.new.window ≡ reader.new.window.most + 1 }
         ensures at_end { reader.new.window.ended ≡ true → IsAtEnd (S.left source.new) }
         ensures held { S.held source.new ≡ S.held source.old }
@@ -113,6 +114,7 @@ impl<'r, 'a, R: Threads + Wait + Sync, G: Gate> Pipeline<'r, 'a, R, G> {
             × CutsOn reader.old.layout (S.left source.old) (S.left source.new) (made_of feed.new) reader.new.number reader.old.window reader.new.window more) }
         ensures same { reader.new.layout ≡ reader.old.layout }
         ensures counted { OnOk result (length (made_of feed.new) ≡ reader.new.number) }
+        ensures whole { OnOk result (EndsRound reader.old.layout reader.new.number reader.new.window) }
         ensures too_large { result ≡ Err stops.TooLarge → reach reader.new.window ≡ reader.new.window.most + 1 }
         ensures at_end { reader.new.window.ended ≡ true → IsAtEnd (S.left source.new) }
         ensures held { S.held source.new ≡ S.held source.old }

@@ -8,7 +8,7 @@ ghost use Rattle.window_load.specs.declared.stop.LoadStop.TheVariants as stops;
 ghost use Rattle.pipe_load.specs.Feeding.{AreNumbered, IsCallers, IsFeed, IsFed, WaitsForRoom, made_of};
 ghost use Rattle.pipe_load.specs.Layout.{IsLayout, round_len};
 ghost use Rattle.pipe_load.specs.PassViews.{with_marks};
-ghost use Rattle.pipe_load.specs.Reading.{CutsOn};
+ghost use Rattle.pipe_load.specs.Reading.{CutsOn, EndsRound};
 ghost use Rattle.pipe_load.specs.Rule.{WasFull};
 
 use crate::reader::Reader;
@@ -81,6 +81,7 @@ impl Feed {
             × CutsOn reader.old.layout (S.left source.old) (S.left source.new) (made_of self.new) reader.new.number reader.old.window reader.new.window more) }
         ensures same { reader.new.layout ≡ reader.old.layout }
         ensures counted { OnOk result (length (made_of self.new) ≡ reader.new.number) }
+        ensures whole { OnOk result (EndsRound reader.old.layout reader.new.number reader.new.window) }
         ensures too_large { result ≡ Err stops.TooLarge → reach reader.new.window ≡ reader.new.window.most + 1 }
         ensures at_end { reader.new.window.ended ≡ true → IsAtEnd (S.left source.new) }
         ensures held { S.held source.new ≡ S.held source.old }
@@ -200,6 +201,7 @@ impl Feed {
             × CutsOn reader.old.layout (S.left source.old) (S.left source.new) (made_of self.new) reader.new.number reader.old.window reader.new.window more) }
         ensures same { reader.new.layout ≡ reader.old.layout }
         ensures counted { OnOk result (length (made_of self.new) ≡ reader.new.number) }
+        ensures whole { OnOk result (EndsRound reader.old.layout reader.new.number reader.new.window) }
         ensures too_large { result ≡ Err stops.TooLarge → reach reader.new.window ≡ reader.new.window.most + 1 }
         ensures at_end { reader.new.window.ended ≡ true → IsAtEnd (S.left source.new) }
         ensures held { S.held source.new ≡ S.held source.old }

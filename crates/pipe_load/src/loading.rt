@@ -48,14 +48,13 @@ fn load_rounds<R: Threads + Wait + Sync, S: Source + Send, G: Gate>(
     let mut reader = Reader::new(loader.alloc, window, layout);
     reader.fill(source)?;
     let mut counted = Counted::new(loader.alloc, loader.context)?;
-    for _ in 0..u64::MAX {
+    loop {
         round_of(loader, &reader).load_round(&mut reader, &mut counted, source)?;
         if reader.is_done() {
             return Ok(data_read(counted));
         }
         reader.turn();
     }
-    Err(LoadStop::NoMemory)
 }
 
 /// Loads the data of an input, of which the head was read. They begin at a place of the head, and go on with what is left

@@ -7,6 +7,7 @@ ghost use Rattle.window_load.specs.Window.{reach, ReachesOn};
 ghost use Rattle.window_load.specs.declared.stop.LoadStop.TheVariants as stops;
 ghost use Rattle.pipe_load.specs.Layout.{IsLayout, round_len};
 ghost use Rattle.pipe_load.specs.Loading.{HasReach, AddsRound};
+ghost use Rattle.pipe_load.specs.Reading.{EndsRound};
 
 use crate::feeding::Feed;
 use crate::joining::Counted;
@@ -68,6 +69,7 @@ impl<'r, 'a, R: Threads + Wait + Sync, G: Gate> Pipeline<'r, 'a, R, G> {
             reader.new.number reader.old.window reader.new.window more counted.old counted.new) }
         ensures same { reader.new.layout ≡ reader.old.layout }
         ensures few { OnOk result (reader.new.number ≤ round_len reader.old.layout) }
+        ensures whole { OnOk result (EndsRound reader.old.layout reader.new.number reader.new.window) }
         ensures too_large { result ≡ Err stops.TooLarge → reach reader.new.window ≡ reader.new.window.most + 1 }
         ensures at_end { reader.new.window.ended ≡ true → IsAtEnd (S.left source.new) }
         ensures held { S.held source.new ≡ S.held source.old }

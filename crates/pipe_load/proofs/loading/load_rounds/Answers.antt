@@ -8,8 +8,8 @@ use Rattle.pipe_load.specs.Loading.{AddsRound, IsAllRead, data_read}
 use Rattle.pipe_load.proofs.RoundLaws.{IsUpToRound, started_cut, first_round, comes_on, round_on, turned_on, all_done, few_before}
 use Rattle.pipe_load.proofs.loading.load_rounds.Goals as goal
 
-pub loop-init : goal.loop-init
-loop-init g c =
+pub loop-counted-init : goal.loop-counted-init
+loop-counted-init g c =
     let context = c.args.loader.now.context.now in
     let before = g.S.Source.left c.args.source.now in
     let after = g.S.Source.left c.fill.new.source in
@@ -31,38 +31,38 @@ loop-init g c =
 
 pub returns-in_err-load_round-clause-moved : goal.returns-in_err-load_round-clause-moved
 returns-in_err-load_round-clause-moved g c =
-    let inv = c.loop.invariant in
-    let on = comes_on c.args.loader.now.context.now c.loop.reader.layout inv.lies c.args.window (g.S.Source.left c.args.source.now) (g.S.Source.left c.loop.source) (g.S.Source.left c.load_round.new.source)
-    c.loop.reader.window c.load_round.new.reader.window c.loop.counted inv.up_to c.load_round.ensures.moved in (on.0, on.1)
+    let inv = c.loop-counted.invariant in
+    let on = comes_on c.args.loader.now.context.now c.loop-counted.reader.layout inv.lies c.args.window (g.S.Source.left c.args.source.now) (g.S.Source.left c.loop-counted.source) (g.S.Source.left c.load_round.new.source)
+    c.loop-counted.reader.window c.load_round.new.reader.window c.loop-counted.counted inv.up_to c.load_round.ensures.moved in (on.0, on.1)
 
 pub returns-in_err-load_round-clause-too_large : goal.returns-in_err-load_round-clause-too_large
 returns-in_err-load_round-clause-too_large g c = λ e.
-    let inv = c.loop.invariant in
-    let on = comes_on c.args.loader.now.context.now c.loop.reader.layout inv.lies c.args.window (g.S.Source.left c.args.source.now) (g.S.Source.left c.loop.source) (g.S.Source.left c.load_round.new.source)
-    c.loop.reader.window c.load_round.new.reader.window c.loop.counted inv.up_to c.load_round.ensures.moved in
+    let inv = c.loop-counted.invariant in
+    let on = comes_on c.args.loader.now.context.now c.loop-counted.reader.layout inv.lies c.args.window (g.S.Source.left c.args.source.now) (g.S.Source.left c.loop-counted.source) (g.S.Source.left c.load_round.new.source)
+    c.loop-counted.reader.window c.load_round.new.reader.window c.loop-counted.counted inv.up_to c.load_round.ensures.moved in
     let over : reach c.load_round.new.reader.window ≡ c.load_round.new.reader.window.most + 1 = search rules in
     let far = on.2 in let most = on.3 in (on.0, on.1, omega (arith, over, far, most))
 
 pub returns-then-is_done-clause-moved : goal.returns-then-is_done-clause-moved
 returns-then-is_done-clause-moved g c =
-    let inv = c.loop.invariant in
-    let on = comes_on c.args.loader.now.context.now c.loop.reader.layout inv.lies c.args.window (g.S.Source.left c.args.source.now) (g.S.Source.left c.loop.source) (g.S.Source.left c.load_round.new.source)
-    c.loop.reader.window c.load_round.new.reader.window c.loop.counted inv.up_to c.load_round.ensures.moved in (on.0, on.1)
+    let inv = c.loop-counted.invariant in
+    let on = comes_on c.args.loader.now.context.now c.loop-counted.reader.layout inv.lies c.args.window (g.S.Source.left c.args.source.now) (g.S.Source.left c.loop-counted.source) (g.S.Source.left c.load_round.new.source)
+    c.loop-counted.reader.window c.load_round.new.reader.window c.loop-counted.counted inv.up_to c.load_round.ensures.moved in (on.0, on.1)
 
 pub returns-then-is_done-clause-ok : goal.returns-then-is_done-clause-ok
 returns-then-is_done-clause-ok g c =
     let context = c.args.loader.now.context.now in
-    let l : Layout = c.loop.reader.layout in
+    let l : Layout = c.loop-counted.reader.layout in
     let before = g.S.Source.left c.args.source.now in
     let after = g.S.Source.left c.load_round.new.source in
     let new = c.load_round.new in
-    let inv = c.loop.invariant in
+    let inv = c.loop-counted.invariant in
     let ok = c.in_ok-load_round.ensures.ok in
-    let round : AddsRound context l (g.S.Source.left c.loop.source) after new.reader.number c.loop.reader.window new.reader.window ok.0 c.loop.counted new.counted =
-    subst (λ (x : Layout). AddsRound context x (g.S.Source.left c.loop.source) after new.reader.number c.loop.reader.window new.reader.window ok.0 c.loop.counted new.counted) c.round_of.ensures.layout
-    (subst (λ (y : Context). AddsRound y c.round_of.result.scanner.layout (g.S.Source.left c.loop.source) after new.reader.number c.loop.reader.window new.reader.window ok.0 c.loop.counted new.counted)
+    let round : AddsRound context l (g.S.Source.left c.loop-counted.source) after new.reader.number c.loop-counted.reader.window new.reader.window ok.0 c.loop-counted.counted new.counted =
+    subst (λ (x : Layout). AddsRound context x (g.S.Source.left c.loop-counted.source) after new.reader.number c.loop-counted.reader.window new.reader.window ok.0 c.loop-counted.counted new.counted) c.round_of.ensures.layout
+    (subst (λ (y : Context). AddsRound y c.round_of.result.scanner.layout (g.S.Source.left c.loop-counted.source) after new.reader.number c.loop-counted.reader.window new.reader.window ok.0 c.loop-counted.counted new.counted)
     c.round_of.ensures.context ok.1) in
-    let up = round_on context l inv.lies c.args.window before (g.S.Source.left c.loop.source) after new.reader.number c.loop.reader.window new.reader.window ok.0 c.loop.counted new.counted inv.up_to round in
+    let up = round_on context l inv.lies c.args.window before (g.S.Source.left c.loop-counted.source) after new.reader.number c.loop-counted.reader.window new.reader.window ok.0 c.loop-counted.counted new.counted inv.up_to round in
     let few : length new.reader.window.kept ≤ lead l new.reader.number =
     subst (λ (x : Layout). length new.reader.window.kept ≤ lead x new.reader.number) c.load_round.ensures.same (c.is_done.ensures.none c.if-is_done.true) in
     let done = all_done context l inv.lies c.args.window before after new.reader.number new.reader.window new.counted up few in (
@@ -74,36 +74,36 @@ returns-then-is_done-clause-ok g c =
 pub turn-requires : goal.turn-requires
 turn-requires g c =
     let context = c.args.loader.now.context.now in
-    let l : Layout = c.loop.reader.layout in
+    let l : Layout = c.loop-counted.reader.layout in
     let before = g.S.Source.left c.args.source.now in
     let after = g.S.Source.left c.load_round.new.source in
     let new = c.load_round.new in
-    let inv = c.loop.invariant in
+    let inv = c.loop-counted.invariant in
     let ok = c.in_ok-load_round.ensures.ok in
-    let round : AddsRound context l (g.S.Source.left c.loop.source) after new.reader.number c.loop.reader.window new.reader.window ok.0 c.loop.counted new.counted =
-    subst (λ (x : Layout). AddsRound context x (g.S.Source.left c.loop.source) after new.reader.number c.loop.reader.window new.reader.window ok.0 c.loop.counted new.counted) c.round_of.ensures.layout
-    (subst (λ (y : Context). AddsRound y c.round_of.result.scanner.layout (g.S.Source.left c.loop.source) after new.reader.number c.loop.reader.window new.reader.window ok.0 c.loop.counted new.counted)
+    let round : AddsRound context l (g.S.Source.left c.loop-counted.source) after new.reader.number c.loop-counted.reader.window new.reader.window ok.0 c.loop-counted.counted new.counted =
+    subst (λ (x : Layout). AddsRound context x (g.S.Source.left c.loop-counted.source) after new.reader.number c.loop-counted.reader.window new.reader.window ok.0 c.loop-counted.counted new.counted) c.round_of.ensures.layout
+    (subst (λ (y : Context). AddsRound y c.round_of.result.scanner.layout (g.S.Source.left c.loop-counted.source) after new.reader.number c.loop-counted.reader.window new.reader.window ok.0 c.loop-counted.counted new.counted)
     c.round_of.ensures.context ok.1) in
-    let up = round_on context l inv.lies c.args.window before (g.S.Source.left c.loop.source) after new.reader.number c.loop.reader.window new.reader.window ok.0 c.loop.counted new.counted inv.up_to round in
+    let up = round_on context l inv.lies c.args.window before (g.S.Source.left c.loop-counted.source) after new.reader.number c.loop-counted.reader.window new.reader.window ok.0 c.loop-counted.counted new.counted inv.up_to round in
     let few = few_before context l inv.lies c.args.window before after new.reader.number new.reader.window new.counted up c.requires.room in
     let same : new.reader.layout.before ≡ l.before = ap (λ (x : Layout). x.before) c.load_round.ensures.same in
     record { early = omega (arith, few, same) }
 
-pub loop-preserved : goal.loop-preserved
-loop-preserved g c =
+pub loop-counted-preserved : goal.loop-counted-preserved
+loop-counted-preserved g c =
     let context = c.args.loader.now.context.now in
-    let l : Layout = c.loop.reader.layout in
+    let l : Layout = c.loop-counted.reader.layout in
     let before = g.S.Source.left c.args.source.now in
     let after = g.S.Source.left c.load_round.new.source in
     let new = c.load_round.new in
     let n : ℕ = new.reader.number in
-    let inv = c.loop.invariant in
+    let inv = c.loop-counted.invariant in
     let ok = c.in_ok-load_round.ensures.ok in
-    let round : AddsRound context l (g.S.Source.left c.loop.source) after n c.loop.reader.window new.reader.window ok.0 c.loop.counted new.counted =
-    subst (λ (x : Layout). AddsRound context x (g.S.Source.left c.loop.source) after n c.loop.reader.window new.reader.window ok.0 c.loop.counted new.counted) c.round_of.ensures.layout
-    (subst (λ (y : Context). AddsRound y c.round_of.result.scanner.layout (g.S.Source.left c.loop.source) after n c.loop.reader.window new.reader.window ok.0 c.loop.counted new.counted)
+    let round : AddsRound context l (g.S.Source.left c.loop-counted.source) after n c.loop-counted.reader.window new.reader.window ok.0 c.loop-counted.counted new.counted =
+    subst (λ (x : Layout). AddsRound context x (g.S.Source.left c.loop-counted.source) after n c.loop-counted.reader.window new.reader.window ok.0 c.loop-counted.counted new.counted) c.round_of.ensures.layout
+    (subst (λ (y : Context). AddsRound y c.round_of.result.scanner.layout (g.S.Source.left c.loop-counted.source) after n c.loop-counted.reader.window new.reader.window ok.0 c.loop-counted.counted new.counted)
     c.round_of.ensures.context ok.1) in
-    let up = round_on context l inv.lies c.args.window before (g.S.Source.left c.loop.source) after n c.loop.reader.window new.reader.window ok.0 c.loop.counted new.counted inv.up_to round in
+    let up = round_on context l inv.lies c.args.window before (g.S.Source.left c.loop-counted.source) after n c.loop-counted.reader.window new.reader.window ok.0 c.loop-counted.counted new.counted inv.up_to round in
     let few = few_before context l inv.lies c.args.window before after n new.reader.window new.counted up c.requires.room in
     let turn = c.turn.ensures in
     let same : c.turn.new.self.layout ≡ turned l n = turn.layout ∙ ap (λ (x : Layout). turned x n) c.load_round.ensures.same in

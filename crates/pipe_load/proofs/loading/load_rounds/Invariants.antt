@@ -1,10 +1,10 @@
-use Rattle.std.proofs.Common.{◌≡◌, ◌≤◌}
+use Rattle.std.proofs.Common.{◌≡◌, ◌≤◌, ◌-◌, ◌^◌}
 use Rattle.pipe_load.specs.Layout.{IsLayout}
 use Rattle.pipe_load.proofs.RoundLaws.{IsUpToRound}
 use Rattle.pipe_load.proofs.loading.load_rounds.Given as goal
 
-abbrev pub invariant-loop : goal.invariant-loop
-invariant-loop g l = record {
+abbrev pub invariant-loop-counted : goal.invariant-loop-counted
+invariant-loop-counted g l = record {
   plan : l.reader.layout ≡ record l.fn.layout { before = l.reader.layout.before };
   lies : IsLayout l.reader.layout;
   number : l.reader.number ≡ 0;
@@ -14,3 +14,7 @@ invariant-loop g l = record {
   held : g.S.Source.held l.source ≡ g.S.Source.held l.fn.source;
   count : g.S.Source.faults l.fn.source ≤ g.S.Source.faults l.source;
 }
+
+-- each round has windows
+abbrev pub decreases-loop-counted : goal.decreases-loop-counted
+decreases-loop-counted g l = 2 ^ 41 - l.reader.layout.before
