@@ -89,13 +89,11 @@ fn push_rejects(book: &Book, lines: u64, out: &mut Vec<u8>) -> Result<(), NoMemo
     Ok(())
 }
 
-fn push_part(part: Part, shown: &mut Shown) -> Result<(), NoMemory> {
+fn push_part(part: &Part, shown: &mut Shown) -> Result<(), NoMemory> {
     shown.end = part.end();
-    let line_ends = part.line_ends();
-    let (table, book) = part.into_parts();
-    push_rows(&table, &mut shown.rows)?;
-    push_rejects(&book, shown.line_ends, &mut shown.rejects)?;
-    shown.line_ends = shown.line_ends.wrapping_add(line_ends);
+    push_rows(part.table(), &mut shown.rows)?;
+    push_rejects(part.book(), shown.line_ends, &mut shown.rejects)?;
+    shown.line_ends = shown.line_ends.wrapping_add(part.line_ends());
     Ok(())
 }
 
@@ -119,7 +117,7 @@ pub fn scan_ranges(
             from,
             to,
         };
-        push_part(scan(alloc, context, text, 100, &span, shown.end)?, shown)?;
+        push_part(&scan(alloc, context, text, 100, &span, shown.end)?, shown)?;
         from = to;
     }
     Ok(())

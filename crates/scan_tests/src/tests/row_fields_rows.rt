@@ -5,7 +5,7 @@ use super::dialects::{backslashes, commas, commented, dialect};
 use byte_classes::Dialect;
 use csv_source::NoMemory;
 use quote_automaton::begins_comment;
-use row_fields::{Fields, comment_end, next_start, split_row};
+use row_fields::{Fields, comment_end, is_doubled, next_start, split_row};
 use std::alloc::Global;
 use std::process::Abort;
 use std::test::Fail;
@@ -132,6 +132,13 @@ fn a_comment_ends_with_its_line(rt: HostRuntime) {
     let text = b"a\n#b\"\r\nc";
     assert!(rt; begins_comment(&hash, &text[2..]));
     assert_eq!(rt; comment_end(&hash, text, 2), 5);
+}
+
+#[test]
+fn a_quote_is_doubled_where_another_stands_behind_it(rt: HostRuntime) {
+    let text = b"\"a\"\"b\"";
+    assert!(rt; is_doubled(b'"', text, 2) && !is_doubled(b'"', text, 3));
+    assert!(rt; !is_doubled(b'"', text, 5) && !is_doubled(b'"', text, 6));
 }
 
 // A row of a quoted field, a run, two quotes and a run with a closing quote, and of a bare field; and how it is shown.
