@@ -3,14 +3,6 @@ use Rattle.std.proofs.Common.{◌≡◌, ◌≢◌, ℕ, suc, ◌<◌, cond, Lis
 use Rattle.std.proofs.lemmas.Bool.{eq-eqb, ne_eqb}
 use Rattle.load_options.specs.Texts.{pieces_at, put_front}
 
--- a text without a separator is one piece
-pub one_piece : (c : ℕ) (text : List ℕ) → ((i : ℕ) → i < length text → get_or text i 0 ≢ c) → pieces_at c text ≡ text ∷ []
-one_piece c [] none = refl
-one_piece c (b ∷ text) none =
-    let apart : b ≢ c = none 0 (omega arith) in
-    ap (λ t. cond t ([] ∷ pieces_at c text) (put_front b (pieces_at c text))) (ne_eqb b c apart)
-    ∙ ap (put_front b) (one_piece c text (λ i lt. none (suc i) (omega (arith, lt))))
-
 -- the piece before the first separator, and those behind it
 pub first_piece : (c : ℕ) (name behind : List ℕ) → ((i : ℕ) → i < length name → get_or name i 0 ≢ c) → pieces_at c (name ++ c ∷ behind) ≡ name ∷ pieces_at c behind
 first_piece c [] behind none = ap (λ t. cond t ([] ∷ pieces_at c behind) (put_front c (pieces_at c behind))) (eq-eqb c c refl)

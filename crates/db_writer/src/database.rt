@@ -1,5 +1,6 @@
 // A whole database.
 ghost use Rattle.std.specs.Prelude.{◌≡◌, ◌<◌, ◌≤◌, ◌^◌, length, All, IfOk, OnOk};
+ghost use Rattle.load_options.specs.declared.limits.TheConstants.{THREADS};
 ghost use Rattle.csv_writer.specs.Writable.{IsWritableRow};
 ghost use Rattle.db_pages.specs.Grown.{closed, grown, tree_over};
 ghost use Rattle.db_pages.specs.Image.{with_table};
@@ -53,7 +54,7 @@ fn write_pages<R: Threads + Sync>(
     base: u64,
     threads: u32,
 ) -> Result<TablePages, NoMemory>
-    requires threads { (1 ≤ threads) × (threads ≤ 64) }
+    requires threads { (1 ≤ threads) × (threads ≤ THREADS.most) }
     requires writable { All IsWritableRow rows.now.rows }
     ensures ok { IfOk result (λ pages. pages ≡ grown base 1 (records_of rows.now.rows)) }
 {
@@ -75,7 +76,7 @@ fn push_rows_table<R: Threads + Sync>(
     threads: u32,
 ) -> Result<(), NoMemory>
     requires names { length table.now.sniffed.now.names ≡ length table.now.sniffed.now.types }
-    requires threads { (1 ≤ threads) × (threads ≤ 64) }
+    requires threads { (1 ≤ threads) × (threads ≤ THREADS.most) }
     requires writable { All IsWritableRow table.now.rows.now.rows }
     ensures ok { let rows = rows_table table.now.name.now table.now.sniffed.now table.now.rows.now.rows in
         OnOk result (image.new ≡ with_tabled image.old rows) }
@@ -138,7 +139,7 @@ pub fn write_database<R: Threads + Sync>(
     threads: u32,
 ) -> Result<Pieces, NoMemory>
     requires names { length sniffed.now.names ≡ length sniffed.now.types }
-    requires threads { (1 ≤ threads) × (threads ≤ 64) }
+    requires threads { (1 ≤ threads) × (threads ≤ THREADS.most) }
     requires writable { All IsWritableRow rows.now.rows }
     ensures value { IfOk result (λ text. text ≡ database table.now sniffed.now rows.now.rows files.now) }
     ensures few { IfOk result (λ text. length text < 2 ^ 44) }

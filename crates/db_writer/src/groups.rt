@@ -1,5 +1,6 @@
 // Groups of blocks of rows, each written by one worker.
 ghost use Rattle.std.specs.Prelude.{◌≡◌, ◌<◌, ◌≤◌, ◌%◌, ◌⊎◌, ℕ, List, [], length, slice_index_or, slice_range, All, IfOk, OnOk};
+ghost use Rattle.load_options.specs.declared.limits.TheConstants.{THREADS};
 ghost use Rattle.csv_writer.specs.Writable.{IsWritableRow};
 ghost use Rattle.value_types.specs.Datum.{Datum};
 ghost use Rattle.db_pages.specs.Grown.{grown};
@@ -29,8 +30,8 @@ pub(crate) struct Group {
 
 /// How many workers there are for so many rows: each has a block at least.
 pub(crate) fn workers_for(rows: usize, threads: u32) -> usize
-    requires { (1 ≤ threads) × (threads ≤ 64) }
-    ensures { (1 ≤ result) × (result ≤ 64) }
+    requires { (1 ≤ threads) × (threads ≤ THREADS.most) }
+    ensures { (1 ≤ result) × (result ≤ THREADS.most) }
 {
     rows.div_ceil(BLOCK).clamp(1, threads as usize)
 }

@@ -81,7 +81,7 @@ impl RowWriter {
         requires { row < length chunk.now.rows }
         ensures { self.new ≡ self.old }
     {
-        chunk.make_room(&mut self.body, row);
+        let _ = self.body.reserve(chunk.coming_room(row));
     }
 
     /// Appends NULL.

@@ -1,5 +1,4 @@
 pub mod EarlyRows
-pub mod KnownTests
 pub mod WrittenCells
 pub mod WrittenFound
 pub mod WrittenInput

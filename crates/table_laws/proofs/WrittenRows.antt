@@ -4,7 +4,7 @@ use Rattle.std.specs.Prelude.{All, nat_le, option_map}
 use Rattle.std.specs.List.{join_with_byte}
 use Rattle.std.specs.Option.{option_or}
 use Rattle.std.specs.Str.{is_utf8}
-use Rattle.std.proofs.lemmas.Bool.{le-ltb, and_parts}
+use Rattle.std.proofs.lemmas.Bool.{and_parts, cond-false, cond-true, le-ltb}
 use Rattle.std.proofs.lemmas.List.{length-map}
 use Rattle.std.proofs.lemmas.List.Elements.{All-head, All-tail}
 use Rattle.std.proofs.lemmas.Str.{is_utf8-from_IsUtf8}
@@ -26,9 +26,9 @@ use Rattle.csv_writer.specs.Writable.{IsReadableCell}
 use Rattle.csv_writer.specs.WrittenTable.{cell_field, row_line}
 use Rattle.csv_writer.proofs.TextFields.{row_utf8}
 use Rattle.table_laws.specs.Laws.{csv_marks, cell_to_write}
-use Rattle.table_laws.proofs.KnownTests.{cond_no, cond_yes}
 use Rattle.table_laws.proofs.WrittenCells.{ReadsNulls, cells_read, no_cast_fault}
-use Rattle.table_laws.proofs.WrittenTables.{cells_text, cells_writable, same_count}
+use Rattle.value_types.proofs.RowFits.{fit_lengths}
+use Rattle.table_laws.proofs.WrittenTables.{cells_text, cells_writable}
 
 pub csv_dialect : IsDialect csv_marks
 csv_dialect = record {
@@ -88,7 +88,7 @@ module _ (schema : Schema) (tys : List ColumnType) (cells : List Datum) (some : 
   read = read_back written writable
 
   count : length (fields csv_marks (row_text csv_marks written)) ≡ length schema.types
-  count = sym (length-map (fields csv_marks (row_text csv_marks written)) read_field) ∙ ap length read ∙ length-map cells cell_to_write ∙ same_count tys cells w.fit ∙ ap length (sym reads.types)
+  count = sym (length-map (fields csv_marks (row_text csv_marks written)) read_field) ∙ ap length read ∙ length-map cells cell_to_write ∙ fit_lengths tys cells w.fit ∙ ap length (sym reads.types)
 
   text : is_utf8 (row_text csv_marks written) ≡ true
   text = ap is_utf8 (cells_text cells) ∙ is_utf8-from_IsUtf8 (join_with_byte 44 (map cell_field cells)) (row_utf8 cells w.readable)
@@ -98,19 +98,19 @@ module _ (schema : Schema) (tys : List ColumnType) (cells : List Datum) (some : 
 
   module _ (place : RowPlace) where
     no_line_size : line_size_fault csv_marks schema place (row_text csv_marks written) ≡ None
-    no_line_size = cond_no _ _ _ (le-ltb schema.max_line_size (length (row_text csv_marks written)) short)
+    no_line_size = cond-false _ _ _ (le-ltb schema.max_line_size (length (row_text csv_marks written)) short)
 
     no_unquoted : unquoted_fault csv_marks schema place (row_text csv_marks written) ≡ None
     no_unquoted = ap (option_map _) no_flaw
 
     no_unicode : unicode_fault csv_marks schema place (row_text csv_marks written) ≡ None
-    no_unicode = cond_yes _ _ _ text
+    no_unicode = cond-true _ _ _ text
 
     no_missing : missing_fault csv_marks schema place (row_text csv_marks written) ≡ None
-    no_missing = cond_no _ _ _ (ap (λ t. t && not schema.null_padding) (le-ltb (length (fields csv_marks (row_text csv_marks written))) (length schema.types) (omega (arith, count))))
+    no_missing = cond-false _ _ _ (ap (λ t. t && not schema.null_padding) (le-ltb (length (fields csv_marks (row_text csv_marks written))) (length schema.types) (omega (arith, count))))
 
     no_more : too_many_fault csv_marks schema place (row_text csv_marks written) ≡ None
-    no_more = cond_no _ _ _ (le-ltb (length schema.types) (length (fields csv_marks (row_text csv_marks written))) (omega (arith, count)))
+    no_more = cond-false _ _ _ (le-ltb (length schema.types) (length (fields csv_marks (row_text csv_marks written))) (omega (arith, count)))
 
     no_fault : row_fault csv_marks schema place (row_text csv_marks written) ≡ None
     no_fault = λ i. option_or (no_line_size i) (option_or (no_unquoted i) (option_or (no_unicode i) (option_or (no_missing i) (no_more i))))

@@ -2,7 +2,7 @@
 use Rattle.std.proofs.Common.{◌≡◌, ◌≢◌, ℕ, suc, ◌≤◌, Bool, true, false, cond, ◌||◌, ◌&&◌, not, List, [], ◌∷◌, ◌++◌, map, length, refl, sym, ◌∙◌, ap, subst, arith, append-nil}
 use Rattle.std.specs.Prelude.{All, flat_map, ◌==◌}
 use Rattle.std.specs.List.{AllByRecursion, join_with_byte, list_any}
-use Rattle.std.proofs.lemmas.Bool.{eqb-true, eq-eqb, and_parts}
+use Rattle.std.proofs.lemmas.Bool.{and_parts, eq-eqb, eqb-true, or_parts}
 use Rattle.std.proofs.lemmas.List.Elements.{All-head, All-tail}
 use Rattle.std.proofs.Math.Bool.{and-false}
 use Rattle.row_fields.specs.Written as grammar
@@ -11,11 +11,11 @@ use Rattle.value_types.specs.declared.types.ColumnType.{ColumnType}
 use Rattle.value_types.specs.Datum.{Datum, null, typed, text}
 use Rattle.value_types.specs.OfType.{fit_all}
 use Rattle.value_types.specs.ValueText.{value_text}
+use Rattle.value_types.proofs.RowFits.{fit_lengths}
 use Rattle.csv_writer.specs.Quoting.{wants_quotes, needs_quotes, doubled}
 use Rattle.csv_writer.specs.WrittenTable.{text_field, cell_field, row_lines, written_table}
 use Rattle.csv_writer.proofs.PlainValues.{IsPlain, value_plain}
 use Rattle.table_laws.specs.Laws.{csv_marks, text_to_write, cell_to_write, table_to_write, HasColumns}
-use Rattle.table_laws.proofs.KnownTests.{neither}
 
 -- ---- the texts
 
@@ -62,14 +62,14 @@ other_byte b c h e = let same : (b == c) ≡ true = eq-eqb b c e in absurd (let 
 
 bare_byte : (b : ℕ) → wants_quotes b ≡ false → IsBareByte csv_marks b
 bare_byte b h =
-    let three = neither ((b == 44 || b == 34) || b == 10) (b == 13) h in
-    let two = neither (b == 44 || b == 34) (b == 10) three.0 in
-    let one = neither (b == 44) (b == 34) two.0 in
+    let three = or_parts ((b == 44 || b == 34) || b == 10) (b == 13) h in
+    let two = or_parts (b == 44 || b == 34) (b == 10) three.0 in
+    let one = or_parts (b == 44) (b == 34) two.0 in
     record { delim = other_byte b 44 one.0; quote = other_byte b 34 one.1; lf = other_byte b 10 two.1; cr = other_byte b 13 three.1 }
 
 bare_text : (bytes : List ℕ) → list_any wants_quotes bytes ≡ false → AllByRecursion (IsBareByte csv_marks) bytes
 bare_text [] h = tt
-bare_text (b ∷ bytes) h = let both = neither (wants_quotes b) (list_any wants_quotes bytes) h in (bare_byte b both.0, bare_text bytes both.1)
+bare_text (b ∷ bytes) h = let both = or_parts (wants_quotes b) (list_any wants_quotes bytes) h in (bare_byte b both.0, bare_text bytes both.1)
 
 plain_text : (bytes : List ℕ) → IsPlain bytes → AllByRecursion (IsBareByte csv_marks) bytes
 plain_text [] h = tt
@@ -79,7 +79,7 @@ text_writable : (bytes : List ℕ) → IsWritable csv_marks (needs_quotes bytes)
 text_writable bytes = by_test (needs_quotes bytes) refl where
   by_test : (t : Bool) → needs_quotes bytes ≡ t → IsWritable csv_marks t bytes
   by_test true is = (34, refl, refl)
-  by_test false is = bare_text bytes (neither _ (list_any wants_quotes bytes) is).1
+  by_test false is = bare_text bytes (or_parts _ (list_any wants_quotes bytes) is).1
 
 cell_writable : (cell : Datum) → IsWritable csv_marks (cell_to_write cell).quoted (cell_to_write cell).value
 cell_writable null = tt
@@ -104,14 +104,8 @@ row_writable write each (x ∷ xs) some =
 pub names_writable : (names : List (List ℕ)) → 1 ≤ length names → IsWrittenRow csv_marks (map text_to_write names)
 names_writable names some = row_writable text_to_write text_writable names some
 
-pub same_count : (tys : List ColumnType) (cells : List Datum) → fit_all tys cells ≡ true → length cells ≡ length tys
-same_count [] [] h = refl
-same_count [] (cell ∷ cells) h = absurd (let no : ⊥ = cc in no)
-same_count (ty ∷ tys) [] h = absurd (let no : ⊥ = cc in no)
-same_count (ty ∷ tys) (cell ∷ cells) h = ap suc (same_count tys cells (and_parts _ _ h).1)
-
 pub cells_writable : (types : List ColumnType) (cells : List Datum) → 1 ≤ length types → fit_all types cells ≡ true → IsWrittenRow csv_marks (map cell_to_write cells)
-cells_writable types cells some fit = row_writable cell_to_write cell_writable cells (omega (arith, same_count types cells fit, some))
+cells_writable types cells some fit = row_writable cell_to_write cell_writable cells (omega (arith, fit_lengths types cells fit, some))
 
 pub rows_writable : (types : List ColumnType) (rows : List (List Datum)) → 1 ≤ length types → All (λ cells. fit_all types cells ≡ true) rows →
     AllByRecursion (IsWrittenRow csv_marks) (map (map cell_to_write) rows)

@@ -1,7 +1,8 @@
 use Rattle.std.proofs.Common.{Some, None, ◌∙◌, ap, arith}
 use Rattle.std.proofs.lemmas.Str.Pattern.{split_parts}
 use Rattle.load_options.specs.FileNames.{file_names}
-use Rattle.csv_loader.proofs.NameSteps.{one_piece, first_piece}
+use Rattle.load_options.proofs.ListSteps.{pieces-whole}
+use Rattle.csv_loader.proofs.NameSteps.{first_piece}
 use Rattle.csv_loader.proofs.batch.first_name.Goals as goal
 
 pub returns-in-Some : goal.returns-in-Some
@@ -10,4 +11,4 @@ returns-in-Some c =
     ap file_names parts.0 ∙ first_piece 44 c.in-Some.name.now c.in-Some.behind.now parts.1
 
 pub returns-in-None : goal.returns-in-None
-returns-in-None c = one_piece 44 c.args.word.now (split_parts 44 c.args.word.now None c.in-None.ensures.cases (omega arith))
+returns-in-None c = pieces-whole 44 c.args.word.now (split_parts 44 c.args.word.now None c.in-None.ensures.cases (omega arith))
