@@ -141,8 +141,8 @@ fn stages_scan_beside_the_reading(rt: HostRuntime) -> Result<(), Fail> {
     check_meeting(&rt, rt.alloc(), 250_000, 1_024, 1_000_000)
 }
 
-// Windows of 68 bytes, of which the queue holds 64 while the stages wait for the input's end.
+// Windows of 176 bytes, of which the queue holds 64 while the stages wait for more to be read.
 #[test]
 fn windows_wait_for_stages_that_begin_late(rt: HostRuntime) -> Result<(), Fail> {
-    check_meeting(&rt, rt.alloc(), 20_000, 1, 130_000)
+    check_meeting(&rt, rt.alloc(), 20_000, 16, 130_000)
 }
