@@ -7,7 +7,7 @@ use Rattle.value_types.specs.Datum.{Datum}
 use Rattle.value_types.specs.OfType.{fit_all}
 use Rattle.column_store.specs.ChunkView.{ChunkView}
 use Rattle.column_store.specs.Stacked.{rows_in}
-use Rattle.column_store.proofs.NextCells.{fit_lengths}
+use Rattle.value_types.proofs.RowFits.{fit_lengths}
 use Rattle.value_types.specs.Spelled.{IsSpelledCell}
 use Rattle.report_text.specs.PrintableRows.{IsPrintableRow}
 
