@@ -6,5 +6,5 @@ use Rattle.dialect_rank.proofs.row_count.bare_rows.count_first.Goals as goal
 
 pub returns : goal.returns
 returns c =
-    c.ones.ensures ∙ ap (λ n. count_ones (c.equal_to.result % n)) (power_fits c.args.first c.requires)
-    ∙ ones_front (λ b. b == c.args.byte) c.args.lanes c.args.first c.equal_to.result c.equal_to.ensures
+    c.ones.ensures ∙ ap (λ n. count_ones (c.wide_equal_to.result % n)) (power_fits c.args.first c.requires)
+    ∙ ones_front (λ b. b == c.args.byte) c.args.lanes c.args.first c.wide_equal_to.result c.wide_equal_to.ensures.mask
