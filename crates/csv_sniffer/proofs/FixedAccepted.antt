@@ -11,7 +11,7 @@ use Rattle.load_options.specs.declared.options.Options.{Options}
 use Rattle.load_options.specs.Accepted.{IsAccepted, ChoosesMark}
 use Rattle.load_options.specs.Conflicts.{chooses_byte, chooses_nothing, detects, is_chosen}
 use Rattle.load_options.specs.Marks.{is_mark}
-use Rattle.load_options.specs.Texts.{is_empty}
+use Rattle.csv_source.specs.Lists.{is_empty}
 use Rattle.dialect_rank.specs.Candidates.{candidates_of, choice_of, with_delim, no_quote}
 use Rattle.dialect_rank.specs.Rank.{best_place}
 use Rattle.dialect_rank.specs.Score.{score_of}

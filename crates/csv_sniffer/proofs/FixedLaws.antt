@@ -6,7 +6,7 @@ use Rattle.value_types.specs.declared.types.ColumnType.{ColumnType}
 use Rattle.value_types.specs.declared.types.ColumnType.TheVariants as types
 use Rattle.load_options.specs.declared.options.Options.{Options}
 use Rattle.load_options.specs.Accepted.{IsAccepted}
-use Rattle.load_options.specs.Texts.{is_empty}
+use Rattle.csv_source.specs.Lists.{is_empty}
 use Rattle.dialect_rank.specs.Sampled.{Span, span_bytes, sampled_spans}
 use Rattle.dialect_rank.specs.Score.{score_rows}
 use Rattle.csv_sniffer.specs.ColumnNames.{final_names}

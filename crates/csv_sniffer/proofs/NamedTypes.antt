@@ -4,7 +4,7 @@ use Rattle.std.specs.Prelude.{option_and_then, slice_get, unwrap_or}
 use Rattle.std.specs.List.{find, position_from}
 use Rattle.value_types.specs.declared.types.ColumnType.{ColumnType}
 use Rattle.load_options.specs.declared.options.ColumnTypes.{ColumnTypes}
-use Rattle.load_options.specs.Texts.{is_empty}
+use Rattle.csv_source.specs.Lists.{is_empty}
 use Rattle.load_options.proofs.ListSteps.{drop-at}
 use Rattle.csv_sniffer.specs.NamedTypes.{place_of, type_given, types_by_name}
 

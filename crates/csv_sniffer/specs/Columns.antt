@@ -4,7 +4,8 @@ use Rattle.std.specs.List.{range_with_len}
 use Rattle.byte_classes.specs.Dialect.{Marks}
 use Rattle.value_types.specs.declared.types.ColumnType.TheVariants.{Varchar}
 use Rattle.load_options.specs.declared.options.Options.{Options}
-use Rattle.load_options.specs.Texts.{is_among, is_empty}
+use Rattle.csv_source.specs.Lists.{is_empty}
+use Rattle.load_options.specs.Texts.{is_among}
 use Rattle.dialect_rank.specs.Sampled.{Span}
 use Rattle.csv_sniffer.specs.Entries.{entries_in}
 use Rattle.csv_sniffer.specs.declared.explaining.entries.ColumnSample.{ColumnSample}

@@ -3,7 +3,7 @@ use Rattle.std.specs.Prelude.{◌&&◌, not, nat_le, Bool, if◌then◌else◌, 
 use Rattle.value_types.specs.declared.types.ColumnType.{ColumnType}
 use Rattle.load_options.specs.declared.limits.TheConstants.{COLUMN_LIMIT}
 use Rattle.load_options.specs.declared.options.Options.{Options}
-use Rattle.load_options.specs.Texts.{is_empty}
+use Rattle.csv_source.specs.Lists.{is_empty}
 use Rattle.dialect_rank.specs.Candidates.{with_dialect}
 use Rattle.csv_sniffer.specs.declared.found.Sniffed.{Sniffed}
 

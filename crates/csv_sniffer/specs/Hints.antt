@@ -10,7 +10,7 @@ use Rattle.value_types.specs.declared.types.ColumnType.{ColumnType}
 use Rattle.value_types.specs.declared.types.ColumnType.TheVariants as types
 use Rattle.value_types.specs.OfType.{same_type}
 use Rattle.load_options.specs.declared.options.Options.{Options}
-use Rattle.load_options.specs.Texts.{is_empty}
+use Rattle.csv_source.specs.Lists.{is_empty}
 use Rattle.csv_sniffer.specs.ColumnTypes.{type_of_values}
 use Rattle.csv_sniffer.specs.Header.{is_varchar}
 use Rattle.csv_sniffer.specs.declared.explaining.entries.ColumnSample.{ColumnSample}

@@ -5,7 +5,8 @@ use Rattle.std.proofs.lemmas.Bool.Decides.{nat_tests}
 use Rattle.db_records.specs.Page.{joined, leaf_page}
 use Rattle.db_records.proofs.Pages.{length-leaf_page}
 use Rattle.db_pages.specs.declared.child.Child.{Child}
-use Rattle.db_pages.specs.Laid.{is_empty_list, next_place}
+use Rattle.csv_source.specs.Lists.{is_empty}
+use Rattle.db_pages.specs.Laid.{next_place}
 use Rattle.db_pages.specs.Grown.{Filled, Grown, behind, closed, holds_at, moved, with_leaf}
 
 same-test : (a b c d : ℕ) → c ≡ a + 4096 → d ≡ b + 4096 → (c == d) ≡ (a == b)
@@ -27,18 +28,18 @@ holds-filled place f fits = holds-cells place f.base f.laid.pages f.laid.leaves 
 
 -- where the pages end that are left once the leaf under way has ended
 module _ (base : ℕ) (pages : List ℕ) (leaves : List Child) (last : ℕ) where
-  pub ended-there : (cells : List (List ℕ)) → is_empty_list cells ≡ true →
+  pub ended-there : (cells : List (List ℕ)) → is_empty cells ≡ true →
       next_place base pages ≡ next_place base (closed (record { base = base; laid = record { pages = pages; leaves = leaves; cells = cells; last = last } })).pages
   ended-there [] e = refl
   ended-there (cell ∷ cells) e = absurd (false≢true e)
 
-  pub ends-behind : (cells : List (List ℕ)) → is_empty_list cells ≡ false → 8 + 2 * length cells + length (joined cells) ≤ 4096 →
+  pub ends-behind : (cells : List (List ℕ)) → is_empty cells ≡ false → 8 + 2 * length cells + length (joined cells) ≤ 4096 →
       next_place base pages + 1 ≡ next_place base (closed (record { base = base; laid = record { pages = pages; leaves = leaves; cells = cells; last = last } })).pages
   ends-behind [] e fits = absurd (false≢true (sym e))
   ends-behind (cell ∷ cells) e fits = omega (arith, length-append pages (leaf_page (cell ∷ cells)), length-leaf_page (cell ∷ cells) fits)
 
 -- an empty leaf behind pages that have none
-pub first_leaf : (g : Grown) (page : List ℕ) (leaves : List Child) (place : ℕ) → is_empty_list g.leaves ≡ true → place ≡ next_place g.base g.pages →
+pub first_leaf : (g : Grown) (page : List ℕ) (leaves : List Child) (place : ℕ) → is_empty g.leaves ≡ true → place ≡ next_place g.base g.pages →
     page ≡ leaf_page [] → leaves ≡ (record { place = place; last = 0 }) ∷ [] → behind g (record { base = place; pages = page; leaves = leaves }) ≡ with_leaf g
 first_leaf g page leaves place empty here one two =
     let next : ℕ = next_place g.base g.pages in
@@ -49,15 +50,15 @@ first_leaf g page leaves place empty here one two =
     ∙ ap (λ cs. record { base = g.base; pages = g.pages ++ leaf_page []; leaves = g.leaves ++ map (moved place next) cs }) two
     ∙ ap (λ cs. record { base = g.base; pages = g.pages ++ leaf_page []; leaves = cs ++ (record { place = next + (place - place); last = 0 }) ∷ [] }) (none-of g.leaves empty)
     ∙ ap (λ n. record { base = g.base; pages = g.pages ++ leaf_page []; leaves = (record { place = n; last = 0 }) ∷ [] }) same
-    ∙ sym (cond-true (is_empty_list g.leaves) added g empty)
+    ∙ sym (cond-true (is_empty g.leaves) added g empty)
   where
-    none-of : (cs : List Child) → is_empty_list cs ≡ true → cs ≡ []
+    none-of : (cs : List Child) → is_empty cs ≡ true → cs ≡ []
     none-of [] e = refl
     none-of (c ∷ cs) e = absurd (false≢true e)
 
-pub some_leaf : (g : Grown) → is_empty_list g.leaves ≡ false → g ≡ with_leaf g
-some_leaf g some = sym (cond-false (is_empty_list g.leaves) (record { base = g.base; pages = g.pages ++ leaf_page []; leaves = (record { place = next_place g.base g.pages; last = 0 }) ∷ [] }) g some)
+pub some_leaf : (g : Grown) → is_empty g.leaves ≡ false → g ≡ with_leaf g
+some_leaf g some = sym (cond-false (is_empty g.leaves) (record { base = g.base; pages = g.pages ++ leaf_page []; leaves = (record { place = next_place g.base g.pages; last = 0 }) ∷ [] }) g some)
 
-pub is_empty_list-length : (cs : List Child) → is_empty_list cs ≡ (length cs == 0)
-is_empty_list-length [] = refl
-is_empty_list-length (c ∷ cs) = grind (arith, nat_tests)
+pub is_empty-length : (cs : List Child) → is_empty cs ≡ (length cs == 0)
+is_empty-length [] = refl
+is_empty-length (c ∷ cs) = grind (arith, nat_tests)

@@ -8,7 +8,8 @@ use Rattle.db_records.specs.Cell.{cell_bytes}
 use Rattle.db_records.specs.Page.{joined, leaf_page}
 use Rattle.db_records.proofs.Pages.{length-leaf_page}
 use Rattle.db_pages.specs.declared.child.Child.{Child}
-use Rattle.db_pages.specs.Laid.{Laid, chain, ended, finished, is_empty_list, long_cell, next_place, nothing_laid, roomy, with_long, with_row, with_rows, with_short}
+use Rattle.csv_source.specs.Lists.{is_empty}
+use Rattle.db_pages.specs.Laid.{Laid, chain, ended, finished, long_cell, next_place, nothing_laid, roomy, with_long, with_row, with_rows, with_short}
 use Rattle.db_pages.proofs.Chains.{long_cell_size}
 use Rattle.db_pages.proofs.Cuts.{joined_more}
 use Rattle.db_pages.proofs.Sizes.{chain-some, chain-whole, long-size, short-size}
@@ -33,11 +34,11 @@ finish base laid n c =
     }
 
 pub end-counts : (base : ℕ) (laid : Laid) (n : ℕ) → Counts laid n → Counts (ended base laid) n
-end-counts base laid n c = by-cells (is_empty_list laid.cells) refl
+end-counts base laid n c = by-cells (is_empty laid.cells) refl
   where
-    by-cells : (test : Bool) → is_empty_list laid.cells ≡ test → Counts (ended base laid) n
-    by-cells true is = same laid (ended base laid) n (cond-true (is_empty_list laid.cells) laid (finished base laid) is) c
-    by-cells false is = same (finished base laid) (ended base laid) n (cond-false (is_empty_list laid.cells) laid (finished base laid) is) (finish base laid n c)
+    by-cells : (test : Bool) → is_empty laid.cells ≡ test → Counts (ended base laid) n
+    by-cells true is = same laid (ended base laid) n (cond-true (is_empty laid.cells) laid (finished base laid) is) c
+    by-cells false is = same (finished base laid) (ended base laid) n (cond-false (is_empty laid.cells) laid (finished base laid) is) (finish base laid n c)
 
 record Room (laid : Laid) (n size : ℕ) : Type 0 where
   counts : Counts laid n

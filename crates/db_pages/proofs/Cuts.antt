@@ -4,7 +4,7 @@ use Rattle.std.proofs.lemmas.List.{take_all, take-append-le, drop-append-le}
 use Rattle.std.proofs.lemmas.Bool.Decides.{nat_tests}
 use Rattle.db_records.specs.Page.{joined, places}
 use Rattle.db_pages.specs.Cut.{cut, packed, page_head, starts, total, Fits}
-use Rattle.db_pages.specs.Laid.{is_empty_list}
+use Rattle.csv_source.specs.Lists.{is_empty}
 
 none : (xs : List ℕ) → 0 ≡ length xs → [] ≡ xs
 none [] h = refl
@@ -58,9 +58,9 @@ measured sizes bytes cells is fits =
     let size : length bytes ≡ length (joined cells) = ap length (sym (joined-cut sizes bytes fits.whole) ∙ ap joined is) in
     (count, size, omega (arith, count, size, fits.room))
 
-pub empty_cut : (sizes bytes : List ℕ) (cells : List (List ℕ)) → cut sizes bytes ≡ cells → (length sizes == 0) ≡ is_empty_list cells
-empty_cut [] bytes cells is = ap is_empty_list is
-empty_cut (size ∷ sizes) bytes cells is = let some : is_empty_list cells ≡ false = sym (ap is_empty_list is) in grind (arith, nat_tests)
+pub empty_cut : (sizes bytes : List ℕ) (cells : List (List ℕ)) → cut sizes bytes ≡ cells → (length sizes == 0) ≡ is_empty cells
+empty_cut [] bytes cells is = ap is_empty is
+empty_cut (size ∷ sizes) bytes cells is = let some : is_empty cells ≡ false = sym (ap is_empty is) in grind (arith, nat_tests)
 
 pub fits_more : (sizes bytes : List ℕ) (cells : List (List ℕ)) (cell : List ℕ) → cut sizes bytes ≡ cells → Fits sizes bytes →
     8 + 2 * (length cells + 1) + length (joined cells) + length cell ≤ 4096 → Fits (sizes ++ length cell ∷ []) (bytes ++ cell)

@@ -8,7 +8,8 @@ use Rattle.sqlite_format.specs.Cell.{local_len}
 use Rattle.db_records.specs.Cell.{cell_bytes}
 use Rattle.db_records.specs.Page.{joined, leaf_page}
 use Rattle.db_pages.specs.declared.child.Child.{Child}
-use Rattle.db_pages.specs.Laid.{Laid, chain, ended, finished, is_empty_list, long_cell, next_place, roomy, with_long, with_row, with_rows, with_short}
+use Rattle.csv_source.specs.Lists.{is_empty}
+use Rattle.db_pages.specs.Laid.{Laid, chain, ended, finished, long_cell, next_place, roomy, with_long, with_row, with_rows, with_short}
 use Rattle.db_pages.specs.Grown.{moved}
 use Rattle.db_pages.proofs.Sizes.{long-size, short-size}
 
@@ -119,12 +120,12 @@ module _ (base from to : ℕ) (pages : List ℕ) (leaves : List Child) (whole : 
       by-cells : (cells : List (List ℕ)) → alone.cells ≡ cells → Follow (ended base laid) (ended from alone)
       by-cells [] is =
           both laid alone (ended base laid) (ended from alone)
-          (cond-true (is_empty_list laid.cells) laid (finished base laid) (ap is_empty_list (f.cells-are ∙ is)))
-          (cond-true (is_empty_list alone.cells) alone (finished from alone) (ap is_empty_list is)) f
+          (cond-true (is_empty laid.cells) laid (finished base laid) (ap is_empty (f.cells-are ∙ is)))
+          (cond-true (is_empty alone.cells) alone (finished from alone) (ap is_empty is)) f
       by-cells (c ∷ cells) is =
           both (finished base laid) (finished from alone) (ended base laid) (ended from alone)
-          (cond-false (is_empty_list laid.cells) laid (finished base laid) (ap is_empty_list (f.cells-are ∙ is)))
-          (cond-false (is_empty_list alone.cells) alone (finished from alone) (ap is_empty_list is))
+          (cond-false (is_empty laid.cells) laid (finished base laid) (ap is_empty (f.cells-are ∙ is)))
+          (cond-false (is_empty alone.cells) alone (finished from alone) (ap is_empty is))
           (finish laid alone f (omega (arith, ap length is)))
 
   -- the end of a block

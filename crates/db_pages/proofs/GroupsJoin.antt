@@ -1,7 +1,8 @@
 -- Groups of rows that are written side by side and joined.
 use Rattle.std.proofs.Common.{◌≡◌, ℕ, ◌+◌, ◌*◌, ◌%◌, ◌==◌, true, if◌then◌else◌, List, [], ◌∷◌, ◌++◌, length, map, refl, sym, ◌∙◌, ap, arith, inl, inr, append-nil}
 use Rattle.std.proofs.lemmas.Bool.{cond-true, eqb-true, or_cases, eq-eqb}
-use Rattle.db_pages.specs.Laid.{Laid, ended, finished, is_empty_list, next_place, nothing_laid, with_row, with_rows}
+use Rattle.csv_source.specs.Lists.{is_empty}
+use Rattle.db_pages.specs.Laid.{Laid, ended, finished, next_place, nothing_laid, with_row, with_rows}
 use Rattle.db_pages.specs.Grown.{Grown, behind, closed, grown, holds_at, moved}
 use Rattle.db_pages.proofs.Counted.{AllShort, Adds, Counts, end-counts, nothing-counts, rows-add}
 use Rattle.db_pages.proofs.Follows.{AllMay, Follows, all, end}
@@ -22,8 +23,8 @@ none-under-way base (row ∷ rows) laid first empty ends =
     ended-none l = by-cells l.cells refl
       where
         by-cells : (cells : List (List ℕ)) → l.cells ≡ cells → (ended base l).cells ≡ []
-        by-cells [] is = ap (λ (x : Laid). x.cells) (cond-true (is_empty_list l.cells) l (finished base l) (ap is_empty_list is)) ∙ is
-        by-cells (c ∷ cells) is = ap (λ cs. (if is_empty_list cs then l else finished base l).cells) is
+        by-cells [] is = ap (λ (x : Laid). x.cells) (cond-true (is_empty l.cells) l (finished base l) (ap is_empty is)) ∙ is
+        by-cells (c ∷ cells) is = ap (λ cs. (if is_empty cs then l else finished base l).cells) is
 
 may-all : (from to : ℕ) (rows : List (List ℕ)) → from ≡ to → AllMay from to rows
 may-all from to [] same = tt
@@ -53,7 +54,7 @@ groups-join base first from rows more ends holds =
     let before : Laid = with_rows base nothing_laid first rows in
     let alone : Laid = with_rows from nothing_laid n more in
     let none : before.cells ≡ [] = none-under-way base rows nothing_laid first (λ _. refl) ends in
-    let done : ended base before ≡ before = cond-true (is_empty_list before.cells) before (finished base before) (ap is_empty_list none) in
+    let done : ended base before ≡ before = cond-true (is_empty before.cells) before (finished base before) (ap is_empty none) in
     let to : ℕ = next_place base before.pages in
     let at : next_place base (ended base before).pages ≡ to = ap (λ (l : Laid). next_place base l.pages) done in
     let a : Adds before 0 (AllShort rows) = rows-add base rows nothing_laid first 0 nothing-counts in

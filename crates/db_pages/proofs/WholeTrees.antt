@@ -8,7 +8,8 @@ use Rattle.db_records.specs.Varint.{varint}
 use Rattle.db_records.proofs.Pages.{length-leaf_page, length-places}
 use Rattle.db_pages.specs.declared.child.Child.{Child}
 use Rattle.db_pages.specs.Grown.{Grown, grown, tree_of, tree_over, with_leaf}
-use Rattle.db_pages.specs.Laid.{ended, is_empty_list, next_place, nothing_laid, with_rows}
+use Rattle.csv_source.specs.Lists.{is_empty}
+use Rattle.db_pages.specs.Laid.{ended, next_place, nothing_laid, with_rows}
 use Rattle.db_pages.specs.Levels.{dividers, grouped, inner_page, last_child, level_children, level_pages, levels_pages, page_above}
 use Rattle.db_pages.specs.Numbers.{four_bytes, number_of}
 use Rattle.db_pages.proofs.Counted.{AllShort, Adds, Counts, end-counts, nothing-counts, rows-add}
@@ -78,15 +79,15 @@ levels-whole (suc fuel) place children =
     ]
 
 pub leaf-whole : (g : Grown) → length g.pages % 4096 ≡ 0 → length (with_leaf g).pages % 4096 ≡ 0
-leaf-whole g whole = by-leaves (is_empty_list g.leaves) refl
+leaf-whole g whole = by-leaves (is_empty g.leaves) refl
   where
     added : Grown
     added = record { base = g.base; pages = g.pages ++ leaf_page []; leaves = (record { place = next_place g.base g.pages; last = 0 }) ∷ [] }
 
-    by-leaves : (test : Bool) → is_empty_list g.leaves ≡ test → length (with_leaf g).pages % 4096 ≡ 0
+    by-leaves : (test : Bool) → is_empty g.leaves ≡ test → length (with_leaf g).pages % 4096 ≡ 0
     by-leaves true is =
-        omega (arith, whole, ap (λ (x : Grown). length x.pages) (cond-true (is_empty_list g.leaves) added g is), length-append g.pages (leaf_page []), length-leaf_page [] (omega arith))
-    by-leaves false is = omega (arith, whole, ap (λ (x : Grown). length x.pages) (cond-false (is_empty_list g.leaves) added g is))
+        omega (arith, whole, ap (λ (x : Grown). length x.pages) (cond-true (is_empty g.leaves) added g is), length-append g.pages (leaf_page []), length-leaf_page [] (omega arith))
+    by-leaves false is = omega (arith, whole, ap (λ (x : Grown). length x.pages) (cond-false (is_empty g.leaves) added g is))
 
 pub tree-whole : (base : ℕ) (rows : List (List ℕ)) → length (tree_of base rows).bytes % 4096 ≡ 0
 unfolding tree_over

@@ -2,7 +2,8 @@
 use Rattle.std.specs.Prelude.{ℕ, ◌+◌, ◌-◌, ◌*◌, ◌==◌, ◌||◌, Bool, List, [], ◌∷◌, ◌++◌, length, map, if◌then◌else◌}
 use Rattle.db_records.specs.Page.{leaf_page}
 use Rattle.db_pages.specs.declared.child.Child.{Child}
-use Rattle.db_pages.specs.Laid.{Laid, ended, is_empty_list, next_place, nothing_laid, with_rows}
+use Rattle.csv_source.specs.Lists.{is_empty}
+use Rattle.db_pages.specs.Laid.{Laid, ended, next_place, nothing_laid, with_rows}
 use Rattle.db_pages.specs.Levels.{levels_pages, root_place}
 
 -- rows laid out behind `base` pages
@@ -47,7 +48,7 @@ behind before next =
 -- a table without rows has one leaf
 abbrev pub with_leaf : Grown → Grown
 with_leaf g =
-    if is_empty_list g.leaves then
+    if is_empty g.leaves then
     record { base = g.base; pages = g.pages ++ leaf_page []; leaves = (record { place = next_place g.base g.pages; last = 0 }) ∷ [] }
     else g
 

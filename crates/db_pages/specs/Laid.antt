@@ -1,5 +1,6 @@
 -- Rows laid out in leaves (SQLite, "Database File Format", sections 1.5 and 1.6; where leaves end is this writer's profile).
-use Rattle.std.specs.Prelude.{ℕ, zero, suc, ◌+◌, ◌-◌, ◌*◌, ◌/◌, ◌%◌, ◌==◌, Bool, true, false, List, [], ◌∷◌, ◌++◌, length, take, drop, replicate, nat_le, if◌then◌else◌}
+use Rattle.std.specs.Prelude.{ℕ, zero, suc, ◌+◌, ◌-◌, ◌*◌, ◌/◌, ◌%◌, ◌==◌, List, [], ◌∷◌, ◌++◌, length, take, drop, replicate, nat_le, if◌then◌else◌}
+use Rattle.csv_source.specs.Lists.{is_empty}
 use Rattle.sqlite_format.specs.declared.kind.Tree.TheVariants.{Table}
 use Rattle.sqlite_format.specs.Cell.{local_len}
 use Rattle.db_records.specs.Varint.{varint}
@@ -18,10 +19,6 @@ pub record Laid : Type 0 where
 abbrev pub nothing_laid : Laid
 nothing_laid = record { pages = []; leaves = []; cells = []; last = 0 }
 
-abbrev pub is_empty_list : {A : Type 0} → List A → Bool
-is_empty_list [] = true
-is_empty_list (x ∷ xs) = false
-
 -- the place of the next page, behind `base` others
 abbrev pub next_place : ℕ → List ℕ → ℕ
 next_place base pages = base + length pages / 4096
@@ -38,7 +35,7 @@ finished base laid =
 
 -- the same, where it has a cell
 abbrev pub ended : ℕ → Laid → Laid
-ended base laid = if is_empty_list laid.cells then laid else finished base laid
+ended base laid = if is_empty laid.cells then laid else finished base laid
 
 -- with room for a cell of so many bytes: a leaf without it is finished
 abbrev pub roomy : ℕ → Laid → ℕ → Laid

@@ -4,7 +4,8 @@ ghost use Rattle.db_records.specs.Cell.{cell_bytes};
 ghost use Rattle.db_records.specs.Page.{joined, leaf_page};
 ghost use Rattle.db_records.specs.Record.{record_of};
 ghost use Rattle.db_records.specs.Varint.{varint};
-ghost use Rattle.db_pages.specs.Laid.{is_empty_list, long_cell};
+ghost use Rattle.csv_source.specs.Lists.{is_empty};
+ghost use Rattle.db_pages.specs.Laid.{long_cell};
 ghost use Rattle.db_pages.specs.Levels.{inner_page};
 ghost use Rattle.db_pages.specs.Numbers.{four_bytes, number_of};
 
@@ -68,7 +69,7 @@ impl Cells {
 
     #[inline(always)]
     pub(crate) fn is_empty(&self) -> bool
-        ensures { result ≡ is_empty_list self.now }
+        ensures { result ≡ is_empty self.now }
     {
         self.sizes.is_empty()
     }

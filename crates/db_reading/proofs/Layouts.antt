@@ -7,7 +7,7 @@ use Rattle.sqlite_pages.specs.PageMap.{PageMap}
 use Rattle.sqlite_btree.specs.Part.{AreApart, all_pages}
 use Rattle.sqlite_btree.specs.Chain.{Layout}
 use Rattle.sqlite_btree.specs.Stored.{IsLaidIn, Owns}
-use Rattle.db_pages.specs.Laid.{is_empty_list}
+use Rattle.csv_source.specs.Lists.{is_empty}
 use Rattle.db_pages.specs.Numbers.{number_of}
 use Rattle.db_reading.specs.Whole.{IsSpanned}
 use Rattle.db_reading.proofs.Roles.{IsPlaced, Role}
@@ -49,15 +49,15 @@ picked-some false page some = absurd (some refl)
 picked-true : (test : Bool) (page : List ℕ) → test ≡ true → picked test page ≡ page
 picked-true test page is = ap (λ t. picked t page) is
 
-empty-is : (xs : List ℕ) → is_empty_list xs ≡ true → xs ≡ []
+empty-is : (xs : List ℕ) → is_empty xs ≡ true → xs ≡ []
 empty-is [] is = refl
 empty-is (x ∷ xs) is = absurd (false≢true is)
 
-some-is : (xs : List ℕ) → xs ≢ [] → is_empty_list xs ≡ false
+some-is : (xs : List ℕ) → xs ≢ [] → is_empty xs ≡ false
 some-is [] some = absurd (some refl)
 some-is (x ∷ xs) some = refl
 
-not-empty : (xs : List ℕ) → not (is_empty_list xs) ≡ true → xs ≢ []
+not-empty : (xs : List ℕ) → not (is_empty xs) ≡ true → xs ≢ []
 not-empty [] is = absurd (false≢true is)
 not-empty (x ∷ xs) is = λ none. omega (arith, ap length none)
 
@@ -67,10 +67,10 @@ live (Some page) some = refl
 
 module _ (pages : PageMap) (first next : ℕ) (role : Role) where
   abbrev is_node : ℕ → Bool
-  is_node number = is_spanned first next number && is_empty_list (role number)
+  is_node number = is_spanned first next number && is_empty (role number)
 
   abbrev is_link : ℕ → Bool
-  is_link number = is_spanned first next number && not (is_empty_list (role number))
+  is_link number = is_spanned first next number && not (is_empty (role number))
 
   abbrev pub tree_layout : Layout
   tree_layout =
@@ -91,12 +91,12 @@ module _ (pages : PageMap) (first next : ℕ) (role : Role) where
   -- a node is one of the tree's pages, and holds the rest of no row
   pub node-out : (number : ℕ) → tree_layout.nodes number ≢ [] → IsSpanned first next number × (role number ≡ [])
   node-out number some =
-      let parts = and_parts (is_spanned first next number) (is_empty_list (role number)) (picked-some (is_node number) (all_pages pages number) some) in
+      let parts = and_parts (is_spanned first next number) (is_empty (role number)) (picked-some (is_node number) (all_pages pages number) some) in
       (span-out first next number parts.0, empty-is (role number) parts.1)
 
   pub link-out : (number : ℕ) → tree_layout.spill number ≢ [] → IsSpanned first next number × (role number ≢ [])
   link-out number some =
-      let parts = and_parts (is_spanned first next number) (not (is_empty_list (role number))) (picked-some (is_link number) (all_pages pages number) some) in
+      let parts = and_parts (is_spanned first next number) (not (is_empty (role number))) (picked-some (is_link number) (all_pages pages number) some) in
       (span-out first next number parts.0, not-empty (role number) parts.1)
 
   nothing-picked : (test : Bool) (page : List ℕ) → (test ≡ true → ⊥) → picked test page ≡ []
@@ -107,7 +107,7 @@ module _ (pages : PageMap) (first next : ℕ) (role : Role) where
   apart number some =
       let empty : role number ≡ [] = (node-out number some).1 in
       nothing-picked (is_link number) (all_pages pages number)
-      (λ is. not-empty (role number) (and_parts (is_spanned first next number) (not (is_empty_list (role number))) is).1 empty)
+      (λ is. not-empty (role number) (and_parts (is_spanned first next number) (not (is_empty (role number))) is).1 empty)
 
   pub placed : (place : ℕ) (page : List ℕ) → first ≤ place → place < next → all_pages pages (number_of place) ≡ page → IsPlaced tree_layout (role (number_of place)) (number_of place) page
   placed place page least less is =
@@ -115,19 +115,19 @@ module _ (pages : PageMap) (first next : ℕ) (role : Role) where
       let spanned : is_spanned first next number ≡ true = span-in first next place least less in
       record {
         node = λ empty.
-            picked-true (is_node number) (all_pages pages number) (both (is_spanned first next number) (is_empty_list (role number)) spanned (ap is_empty_list empty)) ∙ is;
+            picked-true (is_node number) (all_pages pages number) (both (is_spanned first next number) (is_empty (role number)) spanned (ap is_empty empty)) ∙ is;
         link = λ some. (
-          picked-true (is_link number) (all_pages pages number) (both (is_spanned first next number) (not (is_empty_list (role number))) spanned (ap not (some-is (role number) some))) ∙ is,
+          picked-true (is_link number) (all_pages pages number) (both (is_spanned first next number) (not (is_empty (role number))) spanned (ap not (some-is (role number) some))) ∙ is,
           refl,
         );
       }
 
   -- each page of the tree is one or the other
   pub owned : (place : ℕ) (page : List ℕ) → first ≤ place → place < next → all_pages pages (number_of place) ≡ page → page ≢ [] → Owns tree_layout (number_of place)
-  owned place page least less is some = by-role (is_empty_list (role (number_of place))) refl
+  owned place page least less is some = by-role (is_empty (role (number_of place))) refl
     where
-      by-role : (test : Bool) → is_empty_list (role (number_of place)) ≡ test → Owns tree_layout (number_of place)
+      by-role : (test : Bool) → is_empty (role (number_of place)) ≡ test → Owns tree_layout (number_of place)
       by-role true empty = inl (λ none. some (sym ((placed place page least less is).node (empty-is (role (number_of place)) empty)) ∙ none))
       by-role false full =
-          let real : role (number_of place) ≢ [] = λ none. false≢true (sym full ∙ ap is_empty_list none) in
+          let real : role (number_of place) ≢ [] = λ none. false≢true (sym full ∙ ap is_empty none) in
           inr (λ none. some (sym ((placed place page least less is).link real).0 ∙ none))

@@ -13,7 +13,8 @@ use Rattle.db_records.specs.Laws.{HoldsCells, leaf_kind}
 use Rattle.db_records.specs.Page.{joined, leaf_page}
 use Rattle.db_records.proofs.Pages.{leaf-holds, length-leaf_page}
 use Rattle.db_pages.specs.declared.child.Child.{Child}
-use Rattle.db_pages.specs.Laid.{Laid, chain, ended, finished, is_empty_list, long_cell, next_place, roomy, with_long, with_row, with_rows, with_short}
+use Rattle.csv_source.specs.Lists.{is_empty}
+use Rattle.db_pages.specs.Laid.{Laid, chain, ended, finished, long_cell, next_place, roomy, with_long, with_row, with_rows, with_short}
 use Rattle.db_pages.specs.Numbers.{number_of}
 use Rattle.db_pages.proofs.Chains.{long_cell_size}
 use Rattle.db_pages.proofs.Cuts.{joined_more}
@@ -100,17 +101,17 @@ module _ (base : ℕ) (past : 0 < base) where
   same-holds : (laid laid′ : Laid) (count : ℕ) (entries : List Entry) → laid′ ≡ laid → Holds base laid count entries → Holds base laid′ count entries
   same-holds laid laid′ count entries is h = subst (λ l. Holds base l count entries) (sym is) h
 
-  cells-some : (cells : List (List ℕ)) → is_empty_list cells ≡ false → 0 < length cells
+  cells-some : (cells : List (List ℕ)) → is_empty cells ≡ false → 0 < length cells
   cells-some [] is = absurd (false≢true (sym is))
   cells-some (cell ∷ cells) is = omega arith
 
   pub end-holds : (laid : Laid) (count : ℕ) (entries : List Entry) → Holds base laid count entries → Holds base (ended base laid) count entries
-  end-holds laid count entries h = by-cells (is_empty_list laid.cells) refl
+  end-holds laid count entries h = by-cells (is_empty laid.cells) refl
     where
-      by-cells : (test : Bool) → is_empty_list laid.cells ≡ test → Holds base (ended base laid) count entries
-      by-cells true is = same-holds laid (ended base laid) count entries (cond-true (is_empty_list laid.cells) laid (finished base laid) is) h
+      by-cells : (test : Bool) → is_empty laid.cells ≡ test → Holds base (ended base laid) count entries
+      by-cells true is = same-holds laid (ended base laid) count entries (cond-true (is_empty laid.cells) laid (finished base laid) is) h
       by-cells false is =
-          same-holds (finished base laid) (ended base laid) count entries (cond-false (is_empty_list laid.cells) laid (finished base laid) is)
+          same-holds (finished base laid) (ended base laid) count entries (cond-false (is_empty laid.cells) laid (finished base laid) is)
           (finish-holds laid count entries h (cells-some laid.cells is))
 
   record Room (laid : Laid) (count size : ℕ) (entries : List Entry) : Type 0 where
@@ -268,12 +269,12 @@ module _ (base : ℕ) (past : 0 < base) where
 
   -- once the leaf under way has ended, no cell is left
   pub none-left : (laid : Laid) → (ended base laid).cells ≡ []
-  none-left laid = by-cells (is_empty_list laid.cells) refl
+  none-left laid = by-cells (is_empty laid.cells) refl
     where
-      empty : (cells : List (List ℕ)) → is_empty_list cells ≡ true → cells ≡ []
+      empty : (cells : List (List ℕ)) → is_empty cells ≡ true → cells ≡ []
       empty [] is = refl
       empty (cell ∷ cells) is = absurd (false≢true is)
 
-      by-cells : (test : Bool) → is_empty_list laid.cells ≡ test → (ended base laid).cells ≡ []
-      by-cells true is = ap (λ (l : Laid). l.cells) (cond-true (is_empty_list laid.cells) laid (finished base laid) is) ∙ empty laid.cells is
-      by-cells false is = ap (λ (l : Laid). l.cells) (cond-false (is_empty_list laid.cells) laid (finished base laid) is)
+      by-cells : (test : Bool) → is_empty laid.cells ≡ test → (ended base laid).cells ≡ []
+      by-cells true is = ap (λ (l : Laid). l.cells) (cond-true (is_empty laid.cells) laid (finished base laid) is) ∙ empty laid.cells is
+      by-cells false is = ap (λ (l : Laid). l.cells) (cond-false (is_empty laid.cells) laid (finished base laid) is)

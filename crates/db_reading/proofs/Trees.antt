@@ -18,7 +18,8 @@ use Rattle.db_records.specs.Page.{leaf_page}
 use Rattle.db_records.proofs.Pages.{leaf-holds, length-leaf_page}
 use Rattle.db_pages.specs.declared.child.Child.{Child}
 use Rattle.db_pages.specs.Grown.{Grown, TreeBytes, grown, tree_of, tree_over, with_leaf}
-use Rattle.db_pages.specs.Laid.{Laid, ended, is_empty_list, next_place, nothing_laid, with_rows}
+use Rattle.csv_source.specs.Lists.{is_empty}
+use Rattle.db_pages.specs.Laid.{Laid, ended, next_place, nothing_laid, with_rows}
 use Rattle.db_pages.specs.Levels.{levels_pages, root_place}
 use Rattle.db_pages.specs.Numbers.{number_of}
 use Rattle.db_pages.proofs.Closed.{some_leaf}
@@ -59,11 +60,11 @@ tree-over : (g : Grown) → tree_over g ≡ over (with_leaf g)
 unfolding tree_over
 tree-over g = refl
 
-empty-leaves : (leaves : List Child) → is_empty_list leaves ≡ true → leaves ≡ []
+empty-leaves : (leaves : List Child) → is_empty leaves ≡ true → leaves ≡ []
 empty-leaves [] is = refl
 empty-leaves (child ∷ leaves) is = absurd (false≢true is)
 
-some-leaves : (leaves : List Child) → is_empty_list leaves ≡ false → 0 < length leaves
+some-leaves : (leaves : List Child) → is_empty leaves ≡ false → 0 < length leaves
 some-leaves [] is = absurd (false≢true (sym is))
 some-leaves (child ∷ leaves) is = omega arith
 
@@ -81,17 +82,17 @@ module _ (base : ℕ) (rows : List (List ℕ)) (past : 0 < base) (some : All (λ
       omega (arith, c.pages-are)
 
   -- the tree's pages are those of the rows and others behind them, with a leaf more where there is none
-  by-pages : (P : TreeBytes → Type 0) → (is_empty_list laid.leaves ≡ false → P (over (grown base 1 rows))) →
-      (is_empty_list laid.leaves ≡ true → P (over (record { base = base; pages = laid.pages ++ leaf_page []; leaves = (record { place = next_place base laid.pages; last = 0 }) ∷ [] }))) →
+  by-pages : (P : TreeBytes → Type 0) → (is_empty laid.leaves ≡ false → P (over (grown base 1 rows))) →
+      (is_empty laid.leaves ≡ true → P (over (record { base = base; pages = laid.pages ++ leaf_page []; leaves = (record { place = next_place base laid.pages; last = 0 }) ∷ [] }))) →
       P (tree_of base rows)
-  by-pages P with-leaves without = subst P (sym (tree-over (grown base 1 rows))) (by-leaves (is_empty_list laid.leaves) refl)
+  by-pages P with-leaves without = subst P (sym (tree-over (grown base 1 rows))) (by-leaves (is_empty laid.leaves) refl)
     where
       added : Grown
       added = record { base = base; pages = laid.pages ++ leaf_page []; leaves = (record { place = next_place base laid.pages; last = 0 }) ∷ [] }
 
-      by-leaves : (test : Bool) → is_empty_list laid.leaves ≡ test → P (over (with_leaf (grown base 1 rows)))
+      by-leaves : (test : Bool) → is_empty laid.leaves ≡ test → P (over (with_leaf (grown base 1 rows)))
       by-leaves false is = subst (λ g. P (over g)) (some_leaf (grown base 1 rows) is) (with-leaves is)
-      by-leaves true is = subst (λ g. P (over g)) (sym (cond-true (is_empty_list laid.leaves) added (grown base 1 rows) is)) (without is)
+      by-leaves true is = subst (λ g. P (over g)) (sym (cond-true (is_empty laid.leaves) added (grown base 1 rows) is)) (without is)
 
   pages-within : length laid.pages ≤ length (tree_of base rows).bytes
   pages-within =
@@ -114,7 +115,7 @@ module _ (base : ℕ) (rows : List (List ℕ)) (past : 0 < base) (some : All (λ
     abbrev Reads : TreeBytes → Type 0
     Reads tree = (layout : Layout) → length tree.bytes < 2 ^ 50 → Lies layout holds.role base tree.bytes → TreeReads order layout holds.role base tree.bytes tree.root (row_entries 1 rows)
 
-    some-read : is_empty_list laid.leaves ≡ false → Reads (over (grown base 1 rows))
+    some-read : is_empty laid.leaves ≡ false → Reads (over (grown base 1 rows))
     some-read are layout short lies =
         let role : Role = holds.role in
         let Placed : ℕ → List ℕ → Type 0 = λ number p. IsPlaced layout (role number) number p in
@@ -160,7 +161,7 @@ module _ (base : ℕ) (rows : List (List ℕ)) (past : 0 < base) (some : All (λ
               ];
         }
 
-    none-read : is_empty_list laid.leaves ≡ true → Reads (over (record { base = base; pages = laid.pages ++ leaf_page []; leaves = (record { place = next_place base laid.pages; last = 0 }) ∷ [] }))
+    none-read : is_empty laid.leaves ≡ true → Reads (over (record { base = base; pages = laid.pages ++ leaf_page []; leaves = (record { place = next_place base laid.pages; last = 0 }) ∷ [] }))
     none-read are layout short lies =
         let role : Role = holds.role in
         let Placed : ℕ → List ℕ → Type 0 = λ number p. IsPlaced layout (role number) number p in

@@ -4,7 +4,8 @@ use Rattle.std.specs.Option.{option_map_or}
 use Rattle.std.specs.Str.{byte}
 use Rattle.load_options.specs.declared.limits.TheConstants.{NULLS_LIMIT}
 use Rattle.load_options.specs.Given.{given}
-use Rattle.load_options.specs.Texts.{all_different, is_empty, pieces_at}
+use Rattle.csv_source.specs.Lists.{is_empty}
+use Rattle.load_options.specs.Texts.{all_different, pieces_at}
 
 -- texts cut at each comma: not the empty one alone, not too many, all different
 abbrev pub is_null_list : List ℕ → Bool

@@ -24,7 +24,7 @@ use Rattle.range_scan.specs.declared.context.Context.{Context}
 use Rattle.range_scan.specs.declared.joined.Joined.{Joined}
 use Rattle.range_guess.specs.declared.span.Span.{Span}
 use Rattle.range_scan.specs.Joined.{IsJoinedPart, IsBegun, IsOfRange, IsAppended}
-use Rattle.reject_book.specs.Verdict.{is_empty}
+use Rattle.csv_source.specs.Lists.{is_empty}
 use Rattle.range_scan.specs.Part.{Part, part_of, join, no_part, is_bad}
 use Rattle.range_scan.specs.Scanned.{Scanned, judge_in, span_part, scanned}
 use Rattle.range_scan.proofs.BadLaws.{first_fault_left}

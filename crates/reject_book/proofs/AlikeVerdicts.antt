@@ -11,7 +11,8 @@ use Rattle.reject_book.specs.declared.reject.RowPlace.{RowPlace}
 use Rattle.reject_book.specs.declared.reject.Schema.{Schema}
 use Rattle.reject_book.specs.Fault.{row_fault, line_size_fault, unquoted_fault, unicode_fault, missing_fault, too_many_fault, cast_faults}
 use Rattle.reject_book.specs.Judging.{verdict_of, faulty_or, good_unless, is_blank, cell_of_field, cells_of_fields}
-use Rattle.reject_book.specs.Verdict.{Verdict, Blank, cells_of, faults_of, is_empty}
+use Rattle.csv_source.specs.Lists.{is_empty}
+use Rattle.reject_book.specs.Verdict.{Verdict, Blank, cells_of, faults_of}
 
 -- ---- by whether there is a fault
 

@@ -6,7 +6,7 @@ use Rattle.byte_classes.specs.Dialect.{Marks}
 use Rattle.value_types.specs.declared.types.ColumnType.{ColumnType}
 use Rattle.value_types.specs.declared.types.ColumnType.TheVariants.{Varchar}
 use Rattle.load_options.specs.declared.options.Options.{Options}
-use Rattle.load_options.specs.Texts.{is_empty}
+use Rattle.csv_source.specs.Lists.{is_empty}
 use Rattle.dialect_rank.specs.declared.scores.Score.{Score}
 use Rattle.dialect_rank.specs.Candidates.{candidates_of, delims, quotings, with_delim, is_dialect, first_ones, no_quote}
 use Rattle.dialect_rank.specs.Rank.{best_place}

@@ -9,7 +9,8 @@ use Rattle.value_types.specs.OfType.{fit_all}
 use Rattle.value_types.specs.ValueText.{value_text}
 use Rattle.load_options.specs.declared.options.Options.{Options}
 use Rattle.load_options.specs.declared.options.Choice.TheVariants.{Byte}
-use Rattle.load_options.specs.Texts.{all_different, is_empty}
+use Rattle.csv_source.specs.Lists.{is_empty}
+use Rattle.load_options.specs.Texts.{all_different}
 use Rattle.csv_sniffer.specs.Input.{found}
 use Rattle.csv_sniffer.specs.Sample.{sample_limit}
 use Rattle.csv_writer.specs.Quoting.{needs_quotes}

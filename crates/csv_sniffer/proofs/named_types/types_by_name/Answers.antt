@@ -1,5 +1,5 @@
 use Rattle.std.proofs.Common.{◌≡◌, ℕ, ◌+◌, ◌≤◌, true, List, [], ◌∷◌, length, drop, refl, sym, arith}
-use Rattle.load_options.specs.Texts.{is_empty}
+use Rattle.csv_source.specs.Lists.{is_empty}
 use Rattle.csv_sniffer.specs.NamedTypes.{types_by_name}
 use Rattle.csv_sniffer.proofs.NamedTypes.{types_go_on, none_given, none_left}
 use Rattle.csv_sniffer.proofs.named_types.types_by_name.Goals as goal
