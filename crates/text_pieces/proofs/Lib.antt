@@ -3,3 +3,4 @@ pub mod Lanes
 pub mod Ranges
 pub mod RunLengths
 pub mod ShareTexts
+pub mod WriteSteps

@@ -9,8 +9,10 @@ mod draft;
 mod pieces;
 mod runs;
 mod shares;
+mod writing;
 
 pub use draft::{CELL_ROOM, Draft};
 pub use pieces::Pieces;
 pub use runs::run_behind;
 pub use shares::{Share, cut_shares, push_shares};
+pub use writing::{write_text, write_value};
