@@ -1,6 +1,7 @@
 mod Fronts
 pub mod Lanes
 pub mod Ranges
+pub mod RowTexts
 pub mod RunLengths
 pub mod ShareTexts
 pub mod WriteSteps
