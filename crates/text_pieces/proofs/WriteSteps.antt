@@ -1,6 +1,7 @@
 -- Texts that are written one after another.
 use Rattle.std.proofs.Common.{◌≡◌, ℕ, List, [], ◌++◌, Option, Result, Ok, Err, refl, sym, ap, ◌∙◌, subst, append_assoc, append-nil, arith}
 use Rattle.std.specs.Io.KnownBytes.{Appends}
+use Rattle.std.specs.Result.{IsErr}
 use Rattle.std.proofs.KnownBytes.{Appends-nil, Appends-trans}
 use Rattle.text_pieces.specs.Writes.{HasWritten, Writes}
 use Rattle.text_pieces.proofs.Fronts.{cause_behind, cause_failed, front_before, front_behind, ok_behind, whole_front}
@@ -40,3 +41,8 @@ module _ {a b c : Option (List ℕ)} {m n o : ℕ} {whole xs : List ℕ} where
     front = front_behind a b c has.done (xs ++ rest) has.taken (front_before b c xs rest next.front);
     cause = cause_failed {T = T} (Err e) m n o has.later next.cause.later next.cause.failed;
   })
+
+  -- the same, where the answer is told on
+  pub told_on : {left : List ℕ} {S T E F : Type 0} (r : Result T F) (e : E) (rest : List ℕ) → IsErr r → HasWritten a b m n whole left → left ≡ xs ++ rest → Writes {T = S} b c n o (Err e) xs → Writes a c m o r whole
+  told_on (Ok v) e rest is has split next = absurd (let no : ⊥ = cc in no)
+  told_on {T = T} (Err f) e rest is has split next = (let not = not_written {T = T} e rest has split next in record { ok = tt; front = not.front; cause = record { later = not.cause.later; failed = not.cause.failed } })
