@@ -159,8 +159,41 @@ impl Draft {
         Ok(())
     }
 
-    /// Appends the bytes between two places, or nothing. A short run is stored with what stands behind it, 16 bytes in all: that
-    /// takes a copy of a fixed length, and no call.
+    /// Appends the first of some bytes, or nothing. All are stored: where their number is fixed that takes no call.
+    #[inline(always)]
+    pub fn append_front(&mut self, block: &[u8], count: usize) -> Result<(), NoMemory>
+        requires within { count ≤ length block.now }
+        ensures ok { OnOk result (self.new.text ≡ self.old.text ++ take count block.now) }
+        ensures err { OnErr result (self.new.text ≡ self.old.text) }
+    {
+        self.make_room(block.len())?;
+        store(&mut self.bytes, self.end, block);
+        self.end += count;
+        Ok(())
+    }
+
+    /// Appends the bytes between two places, or nothing. Those of a run of at most so many are stored with what stands behind it,
+    /// so many in all: that takes a copy of a fixed length, and no call.
+    #[inline(always)]
+    fn append_by(
+        &mut self,
+        bytes: &[u8],
+        from: usize,
+        end: usize,
+        width: usize,
+    ) -> Result<(), NoMemory>
+        requires ordered { from ≤ end }
+        requires within { end ≤ length bytes.now }
+        ensures ok { OnOk result (self.new.text ≡ self.old.text ++ slice_range bytes.now from end) }
+        ensures err { OnErr result (self.new.text ≡ self.old.text) }
+    {
+        if end - from > width || bytes.len() - from < width {
+            return self.append(&bytes[from..end]);
+        }
+        self.append_front(&bytes[from..from + width], end - from)
+    }
+
+    /// Appends the bytes between two places, or nothing. 16 bytes are stored at once.
     #[inline(always)]
     pub fn append_run(&mut self, bytes: &[u8], from: usize, end: usize) -> Result<(), NoMemory>
         requires ordered { from ≤ end }
@@ -168,12 +201,26 @@ impl Draft {
         ensures ok { OnOk result (self.new.text ≡ self.old.text ++ slice_range bytes.now from end) }
         ensures err { OnErr result (self.new.text ≡ self.old.text) }
     {
-        if end - from > 16 || bytes.len() - from < 16 {
-            return self.append(&bytes[from..end]);
+        self.append_by(bytes, from, end, 16)
+    }
+
+    /// The text so far.
+    #[inline(always)]
+    pub fn text(&self) -> &[u8]
+        ensures { result.now ≡ self.now.text }
+    {
+        &self.bytes[..self.end]
+    }
+
+    /// Appends another text, or nothing. 16 bytes are stored at once, or 64.
+    #[inline(always)]
+    pub fn append_draft(&mut self, other: &Draft) -> Result<(), NoMemory>
+        ensures ok { OnOk result (self.new.text ≡ self.old.text ++ other.now.text) }
+        ensures err { OnErr result (self.new.text ≡ self.old.text) }
+    {
+        if other.end <= 16 {
+            return self.append_by(&other.bytes, 0, other.end, 16);
         }
-        self.make_room(16)?;
-        store(&mut self.bytes, self.end, &bytes[from..from + 16]);
-        self.end += end - from;
-        Ok(())
+        self.append_by(&other.bytes, 0, other.end, 64)
     }
 }
