@@ -10,7 +10,7 @@ use crate::loader::Loader;
 use crate::reply::Reply;
 use csv_sniffer::Sniffed;
 use csv_source::NoMemory;
-use db_writer::write_database;
+use db_writer::{Contents, write_database};
 use file_list::{Batch, FileBook};
 use report_text::all_in;
 use std::thread::Threads;
@@ -40,15 +40,13 @@ impl<'a, R: Threads + Sync, G> Loader<'a, R, G> {
         ensures ok { IfOk result (λ r. r ≡ database_reply self.now.options.now sniffed.now batch.now) }
     {
         let options = self.options;
-        let text = write_database(
-            self.rt,
-            self.alloc,
-            options.table.as_slice(),
+        let contents = Contents {
+            table: options.table.as_slice(),
             sniffed,
-            batch.table(),
-            stored_files(options.store_rejects, batch.files()),
-            options.threads,
-        )?;
+            rows: batch.table(),
+            files: stored_files(options.store_rejects, batch.files()),
+        };
+        let text = write_database(self.rt, self.alloc, &contents, options.threads)?;
         Ok(Reply::new(Ending::Answered(all_in(batch)?, sniffed.other_delim), text))
     }
 }

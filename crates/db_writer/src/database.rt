@@ -9,6 +9,7 @@ ghost use Rattle.db_records.specs.Record.{IsWritable};
 ghost use Rattle.db_writer.specs.Rejects.{AreCounted, reject_rows, scan_rows};
 ghost use Rattle.db_writer.specs.Database.{database, errors_table, rows_table, scans_table, with_tabled};
 
+use crate::contents::Contents;
 use crate::definitions::{create_text, errors_text, scans_text};
 use crate::groups::{cut_blocks, push_groups, workers_for, write_again, write_groups};
 use crate::rejects::{push_rejects, push_scans};
@@ -22,14 +23,6 @@ use file_list::FileBook;
 use std::alloc::Global;
 use std::thread::Threads;
 use text_pieces::Pieces;
-
-/// A table to be written: its name, what was found of its columns, and its rows.
-#[derive(Clone, Copy)]
-struct NamedTable<'a> {
-    name: &'a [u8],
-    sniffed: &'a Sniffed,
-    rows: &'a Table,
-}
 
 /// Appends a table by its leaves.
 fn push_leaves(
@@ -72,20 +65,20 @@ fn push_rows_table<R: Threads + Sync>(
     rt: &R,
     alloc: Global,
     image: &mut Image,
-    table: &NamedTable<'_>,
+    contents: &Contents<'_>,
     threads: u32,
 ) -> Result<(), NoMemory>
-    requires names { length table.now.sniffed.now.names ≡ length table.now.sniffed.now.types }
+    requires names { length contents.now.sniffed.now.names ≡ length contents.now.sniffed.now.types }
     requires threads { (1 ≤ threads) × (threads ≤ THREADS.most) }
-    requires writable { All IsWritableRow table.now.rows.now.rows }
-    ensures ok { let rows = rows_table table.now.name.now table.now.sniffed.now table.now.rows.now.rows in
+    requires writable { All IsWritableRow contents.now.rows.now.rows }
+    ensures ok { let rows = rows_table contents.now.table.now contents.now.sniffed.now contents.now.rows.now.rows in
         OnOk result (image.new ≡ with_tabled image.old rows) }
 {
-    let sniffed = table.sniffed;
-    let sql = create_text(alloc, table.name, &sniffed.names, &sniffed.types)?;
-    let pages = write_pages(rt, alloc, table.rows, image.next_place(), threads)?;
+    let sniffed = contents.sniffed;
+    let sql = create_text(alloc, contents.table, &sniffed.names, &sniffed.types)?;
+    let pages = write_pages(rt, alloc, contents.rows, image.next_place(), threads)?;
     let tree = pages.finish()?;
-    image.push(table.name, &sql, tree)
+    image.push(contents.table, &sql, tree)
 }
 
 /// Appends the table of the scans.
@@ -125,35 +118,26 @@ fn push_errors_table(alloc: Global, image: &mut Image, files: &[FileBook]) -> Re
     )
 }
 
-/// The text of a database: the rows in a table of that name, under the columns that were found, and the rejects of files,
-/// whose numbers are their places from 0 on. Where rejects aren't stored, there are no files. At most so many workers write
-/// the rows, and what each wrote is a piece of the text. What can't be counted counts as want of memory, as a number of 2^63
-/// and more, or more pages than SQLite numbers.
+/// The text of a database, whose rows at most so many workers write; what each wrote is a piece of the text. The numbers of files
+/// are their places from 0 on. What can't be counted counts as want of memory, as a number of 2^63 and more, or more pages than
+/// SQLite numbers.
 pub fn write_database<R: Threads + Sync>(
     rt: &R,
     alloc: Global,
-    table: &[u8],
-    sniffed: &Sniffed,
-    rows: &Table,
-    files: &[FileBook],
+    contents: &Contents<'_>,
     threads: u32,
 ) -> Result<Pieces, NoMemory>
-    requires names { length sniffed.now.names ≡ length sniffed.now.types }
+    requires names { length contents.now.sniffed.now.names ≡ length contents.now.sniffed.now.types }
     requires threads { (1 ≤ threads) × (threads ≤ THREADS.most) }
-    requires writable { All IsWritableRow rows.now.rows }
-    ensures value { IfOk result (λ text. text ≡ database table.now sniffed.now rows.now.rows files.now) }
+    requires writable { All IsWritableRow contents.now.rows.now.rows }
+    ensures value { IfOk result (λ text. text ≡ database contents.now.table.now contents.now.sniffed.now contents.now.rows.now.rows contents.now.files.now) }
     ensures few { IfOk result (λ text. length text < 2 ^ 44) }
-    ensures counted { IfOk result (λ _. AreCounted sniffed.now files.now) }
+    ensures counted { IfOk result (λ _. AreCounted contents.now.sniffed.now contents.now.files.now) }
 {
     tables_follow();
     let mut image = Image::new(alloc);
-    let named = NamedTable {
-        name: table,
-        sniffed,
-        rows,
-    };
-    push_rows_table(rt, alloc, &mut image, &named, threads)?;
-    push_scans_table(alloc, &mut image, sniffed, files)?;
-    push_errors_table(alloc, &mut image, files)?;
+    push_rows_table(rt, alloc, &mut image, contents, threads)?;
+    push_scans_table(alloc, &mut image, contents.sniffed, contents.files)?;
+    push_errors_table(alloc, &mut image, contents.files)?;
     image.finish()
 }

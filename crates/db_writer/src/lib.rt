@@ -4,9 +4,10 @@
 //! DuckDB's manual, `reject_scans` and `reject_errors`. Its text is one function of what was loaded: a header's page, the
 //! pages of each table, and those of the list of tables (SQLite, "Database File Format"). Blocks of 8,192 rows begin a
 //! page of their own, so that workers write groups of blocks side by side, and what each wrote is a piece of the text.
-//! For users of the library: `write_database`.
+//! For users of the library: `write_database` of `Contents`.
 #![tactic(auto)]
 
+mod contents;
 mod database;
 mod definitions;
 mod fields;
@@ -16,4 +17,5 @@ mod rejects;
 mod row_writer;
 mod rows;
 
+pub use contents::Contents;
 pub use database::write_database;

@@ -5,7 +5,7 @@ ghost use Rattle.value_types.specs.Spelled.{IsSpelledCell};
 use super::tables::{found, no_rows, push};
 use column_store::Table;
 use csv_source::{Bytes, MemorySink, NoMemory};
-use db_writer::write_database;
+use db_writer::{Contents, write_database};
 use file_list::FileBook;
 use reject_book::{Book, ErrorKind, Keep, Reject};
 use std::alloc::Global;
@@ -116,7 +116,13 @@ fn a_small_database_is_the_stored_one(rt: HostRuntime) -> Result<(), NoMemory> {
     let sniffed = found(alloc)?;
     let table = three_rows(alloc)?;
     let files = two_files(alloc)?;
-    let text = write_database(&rt, alloc, b"or\"ders", &sniffed, &table, &files, 4)?;
+    let contents = Contents {
+        table: b"or\"ders",
+        sniffed: &sniffed,
+        rows: &table,
+        files: &files,
+    };
+    let text = write_database(&rt, alloc, &contents, 4)?;
     assert!(rt; is_text(alloc, &text, &stored(alloc)?)?);
     Ok(())
 }

@@ -6,7 +6,7 @@ use super::small::is_text;
 use super::tables::{found, no_rows, push};
 use column_store::Table;
 use csv_source::{MemorySink, NoMemory};
-use db_writer::write_database;
+use db_writer::{Contents, write_database};
 use std::alloc::Global;
 use value_types::Cells;
 
@@ -30,11 +30,17 @@ fn one_database_comes_whatever_the_threads(rt: HostRuntime) -> Result<(), NoMemo
     let alloc = rt.alloc();
     let sniffed = found(alloc)?;
     let table = three_blocks(alloc)?;
-    let text = write_database(&rt, alloc, b"data", &sniffed, &table, &[], 1)?;
+    let contents = Contents {
+        table: b"data",
+        sniffed: &sniffed,
+        rows: &table,
+        files: &[],
+    };
+    let text = write_database(&rt, alloc, &contents, 1)?;
     let mut sink = MemorySink::with_room(alloc, 1 << 20)?;
     assert!(rt; text.write(&mut sink).is_ok());
     for threads in [2, 4, 64] {
-        let text = write_database(&rt, alloc, b"data", &sniffed, &table, &[], threads)?;
+        let text = write_database(&rt, alloc, &contents, threads)?;
         assert!(rt; is_text(alloc, &text, sink.taken())?);
     }
     Ok(())

@@ -9,9 +9,9 @@ use Rattle.db_writer.proofs.database.write_database.Goals as goal
 pub returns : goal.returns
 unfolding database
 returns g c =
-    let rows : Tabled = rows_table c.args.table.now c.args.sniffed.now c.args.rows.now.rows in
-    let scans : Tabled = scans_table c.args.sniffed.now c.args.files.now in
-    let errors : Tabled = errors_table c.args.files.now in
+    let rows : Tabled = rows_table c.args.contents.now.table.now c.args.contents.now.sniffed.now c.args.contents.now.rows.now.rows in
+    let scans : Tabled = scans_table c.args.contents.now.sniffed.now c.args.contents.now.files.now in
+    let errors : Tabled = errors_table c.args.contents.now.files.now in
     let all = c.in_ok-push_errors_table.ensures.ok
     ∙ ap (λ (i : Imaged). with_tabled i errors) (c.in_ok-push_scans_table.ensures.ok ∙ ap (λ (i : Imaged). with_tabled i scans) (c.in_ok-push_rows_table.ensures.ok ∙ ap (λ (i : Imaged). with_tabled i rows) c.new-image.ensures)) in
     record {
