@@ -4,7 +4,7 @@ use Rattle.std.specs.Prelude.{unwrap_or, IsPermutation}
 use Rattle.std.specs.Bool.{MatchBool}
 use Rattle.std.specs.List.{find, range_with_len}
 use Rattle.std.specs.Str.{bytes_eq}
-use Rattle.std.proofs.lemmas.Bool.{cases_Bool}
+use Rattle.std.proofs.lemmas.Bool.{cases_Bool, not-false}
 use Rattle.std.proofs.lemmas.List.Sorted.{list_any-IsPermutation}
 use Rattle.std.proofs.lemmas.Slice.Eq.{bytes_eq-Decides}
 use Rattle.load_options.specs.Texts.{is_among}
@@ -66,11 +66,8 @@ pub next_key : {K : Type 0} (text : K → List ℕ) (added : Bool) (old new : Li
 next_key text true old new key names is put same name =
     sym (list_any-IsPermutation (λ k. bytes_eq name (text k)) (key ∷ old) new put) ∙ ap (λ t. bytes_eq name (text key) || t) (same name)
 next_key text false old new key names is put same name =
-    let known : is_among names (text key) ≡ true = sym (same (text key)) ∙ not_false (is_key old text (text key)) (sym is) in
-    ap (λ ks. is_key ks text name) put ∙ same name ∙ there names (text key) name known where
-      not_false : (t : Bool) → not t ≡ false → t ≡ true
-      not_false true h = refl
-      not_false false h = absurd (let no : ⊥ = cc in no)
+    let known : is_among names (text key) ≡ true = sym (same (text key)) ∙ not-false (is_key old text (text key)) (sym is) in
+    ap (λ ks. is_key ks text name) put ∙ same name ∙ there names (text key) name known
 
 length-names_apart : (earlier names : List (List ℕ)) → length (names_apart earlier names) ≡ length names
 length-names_apart earlier [] = refl
