@@ -17,6 +17,7 @@ use csv_source::NoMemory;
 use db_records::{append, cell_len, push_cell, push_values_cell, push_varint, varint_len};
 use std::alloc::Global;
 use std::marker::Model;
+use text_pieces::Draft;
 
 /// How many bytes stand before the places of a leaf's cells.
 const LEAF_HEAD: usize = 8;
@@ -31,17 +32,17 @@ const INNER_HEAD: usize = 12;
 const INNER: u8 = 5;
 
 /// Appends the number of a page and the last rowid under it.
-fn push_divider_cell(into: &mut Vec<u8>, child: Child) -> Result<(), NoMemory>
-    ensures ok { OnOk result (into.new.items ≡ into.old.items ++ (four_bytes (number_of child.place) ++ varint child.last)) }
+fn push_divider_cell(into: &mut Draft, child: Child) -> Result<(), NoMemory>
+    ensures ok { OnOk result (into.new.text ≡ into.old.text ++ (four_bytes (number_of child.place) ++ varint child.last)) }
 {
-    append(into, &number_bytes(child.place)?)?;
+    into.append(&number_bytes(child.place)?)?;
     push_varint(into, child.last)
 }
 
 /// Cells that fit into a page, one behind another. After an error there is none.
 #[derive(Drop)]
 pub(crate) struct Cells {
-    bytes: Vec<u8>,
+    bytes: Draft,
     sizes: Vec<u16>,
 }
 
@@ -52,9 +53,9 @@ impl Model for Cells {
 
     ghost use Rattle.db_pages.specs.Cut.{cut, Fits};
 
-    ghost view = { λ s. cut s.sizes.items s.bytes.items };
+    ghost view = { λ s. cut s.sizes.items s.bytes.text };
 
-    ghost invariant = { λ s. Fits s.sizes.items s.bytes.items };
+    ghost invariant = { λ s. Fits s.sizes.items s.bytes.text };
 }
 
 impl Cells {
@@ -62,7 +63,7 @@ impl Cells {
         ensures { result ≡ [] }
     {
         Cells {
-            bytes: Vec::new(alloc),
+            bytes: Draft::new(alloc),
             sizes: Vec::new(alloc),
         }
     }
@@ -94,7 +95,7 @@ impl Cells {
     pub(crate) fn clear(&mut self)
         ensures { self.new ≡ [] }
     {
-        self.bytes.clear();
+        self.bytes.truncate(0);
         self.sizes.clear();
     }
 
@@ -109,7 +110,7 @@ impl Cells {
         match push_cell(&mut self.bytes, rowid, row) {
             Ok(()) => Ok(()),
             Err(fault) => {
-                self.bytes.clear();
+                self.bytes.truncate(0);
                 self.sizes.clear();
                 Err(fault)
             }
@@ -122,20 +123,20 @@ impl Cells {
         &mut self,
         size: usize,
         rowid: u64,
-        types: &[u8],
-        body: &[u8],
+        types: &Draft,
+        body: &Draft,
     ) -> Result<(), NoMemory>
-        requires few { length types.now < 127 }
-        requires short { length types.now + length body.now < 4061 }
-        requires size { size ≡ length (cell_bytes rowid (record_of types.now body.now)) }
+        requires few { length types.now.text < 127 }
+        requires short { length types.now.text + length body.now.text < 4061 }
+        requires size { size ≡ length (cell_bytes rowid (record_of types.now.text body.now.text)) }
         requires room { 8 + 2 * (length self.old + 1) + length (joined self.old) + size ≤ 4096 }
-        ensures ok { OnOk result (self.new ≡ self.old ++ cell_bytes rowid (record_of types.now body.now) ∷ []) }
+        ensures ok { OnOk result (self.new ≡ self.old ++ cell_bytes rowid (record_of types.now.text body.now.text) ∷ []) }
     {
         self.sizes.push(size as u16)?;
         match push_values_cell(&mut self.bytes, rowid, types, body) {
             Ok(()) => Ok(()),
             Err(fault) => {
-                self.bytes.clear();
+                self.bytes.truncate(0);
                 self.sizes.clear();
                 Err(fault)
             }
@@ -151,7 +152,7 @@ impl Cells {
         match push_long_cell(&mut self.bytes, rowid, row, place) {
             Ok(()) => Ok(()),
             Err(fault) => {
-                self.bytes.clear();
+                self.bytes.truncate(0);
                 self.sizes.clear();
                 Err(fault)
             }
@@ -169,7 +170,7 @@ impl Cells {
         match push_divider_cell(&mut self.bytes, child) {
             Ok(()) => Ok(()),
             Err(fault) => {
-                self.bytes.clear();
+                self.bytes.truncate(0);
                 self.sizes.clear();
                 Err(fault)
             }
@@ -181,16 +182,16 @@ impl Cells {
         requires room { 12 + 2 * length self.now + length (joined self.now) ≤ 4096 }
         ensures ok { OnOk result (into.new.items ≡ into.old.items ++ inner_page (four_bytes (number_of right)) self.now) }
     {
-        append(into, &head_of(INNER, &self.sizes, &self.bytes))?;
+        append(into, &head_of(INNER, &self.sizes, self.bytes.text()))?;
         append(into, &number_bytes(right)?)?;
-        push_packed(into, INNER_HEAD, &self.sizes, &self.bytes)
+        push_packed(into, INNER_HEAD, &self.sizes, self.bytes.text())
     }
 
     /// Appends a leaf of the cells.
     pub(crate) fn push_leaf(&self, into: &mut Vec<u8>) -> Result<(), NoMemory>
         ensures ok { OnOk result (into.new.items ≡ into.old.items ++ leaf_page self.now) }
     {
-        append(into, &head_of(LEAF, &self.sizes, &self.bytes))?;
-        push_packed(into, LEAF_HEAD, &self.sizes, &self.bytes)
+        append(into, &head_of(LEAF, &self.sizes, self.bytes.text()))?;
+        push_packed(into, LEAF_HEAD, &self.sizes, self.bytes.text())
     }
 }

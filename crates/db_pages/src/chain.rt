@@ -6,7 +6,8 @@ ghost use Rattle.sqlite_format.specs.declared.kind.Tree.TheVariants.{Table};
 
 use crate::number::{PAGE, number_bytes};
 use csv_source::NoMemory;
-use db_records::{append, push_varint, push_zeros, varint_len};
+use db_records::{append, cell_head_len, push_cell_head, push_zeros};
+use text_pieces::Draft;
 
 /// The longest record that stays whole in its cell.
 pub(crate) const MOST_LOCAL: usize = 4061;
@@ -42,22 +43,21 @@ pub(crate) fn long_cell_len(rowid: u64, row: &[u8]) -> usize
     ensures value { result ≡ length (long_cell 0 rowid row.now) }
     ensures within { result ≤ 4086 }
 {
-    varint_len(row.len() as u64) + varint_len(rowid) + local_len(row.len()) + 4
+    cell_head_len(row.len(), rowid) + local_len(row.len()) + 4
 }
 
 /// Appends the cell of a record that goes on at a place.
 pub(crate) fn push_long_cell(
-    into: &mut Vec<u8>,
+    into: &mut Draft,
     rowid: u64,
     row: &[u8],
     place: u64,
 ) -> Result<(), NoMemory>
-    ensures ok { OnOk result (into.new.items ≡ into.old.items ++ long_cell place rowid row.now) }
+    ensures ok { OnOk result (into.new.text ≡ into.old.text ++ long_cell place rowid row.now) }
 {
-    push_varint(into, row.len() as u64)?;
-    push_varint(into, rowid)?;
-    append(into, &row[..local_len(row.len())])?;
-    append(into, &number_bytes(place)?)
+    push_cell_head(into, row.len(), rowid)?;
+    into.append(&row[..local_len(row.len())])?;
+    into.append(&number_bytes(place)?)
 }
 
 /// Appends the pages in which a record goes on, from a place on. `NoMemory` also where the number of one doesn't fit 32 bits.

@@ -14,6 +14,7 @@ use csv_source::NoMemory;
 use db_records::{cell_len, values_cell_len};
 use std::alloc::Global;
 use std::marker::Model;
+use text_pieces::Draft;
 
 /// How many rows a block has: its end ends a leaf, so that the pages of a block depend on its rows alone.
 const BLOCK: u64 = 8192;
@@ -137,10 +138,10 @@ impl Leaves {
 
     /// Appends a row whose record is made of few types and some values, and stays whole.
     #[inline(always)]
-    fn push_short_values(&mut self, rowid: u64, types: &[u8], body: &[u8]) -> Result<(), NoMemory>
-        requires few { length types.now < 127 }
-        requires short { length types.now + length body.now < 4061 }
-        ensures ok { OnOk result (self.new ≡ record self.old { laid = with_short self.old.base self.old.laid rowid (record_of types.now body.now) }) }
+    fn push_short_values(&mut self, rowid: u64, types: &Draft, body: &Draft) -> Result<(), NoMemory>
+        requires few { length types.now.text < 127 }
+        requires short { length types.now.text + length body.now.text < 4061 }
+        ensures ok { OnOk result (self.new ≡ record self.old { laid = with_short self.old.base self.old.laid rowid (record_of types.now.text body.now.text) }) }
     {
         let size = values_cell_len(rowid, types, body);
         self.make_room(size)?;
@@ -151,10 +152,10 @@ impl Leaves {
 
     /// Appends a row by the few types and the values of its record, which stays whole.
     #[inline(always)]
-    pub fn push_values(&mut self, rowid: u64, types: &[u8], body: &[u8]) -> Result<(), NoMemory>
-        requires few { length types.now < 127 }
-        requires short { length types.now + length body.now < 4061 }
-        ensures ok { OnOk result (self.new ≡ record self.old { laid = with_rows self.old.base self.old.laid rowid (record_of types.now body.now ∷ []) }) }
+    pub fn push_values(&mut self, rowid: u64, types: &Draft, body: &Draft) -> Result<(), NoMemory>
+        requires few { length types.now.text < 127 }
+        requires short { length types.now.text + length body.now.text < 4061 }
+        ensures ok { OnOk result (self.new ≡ record self.old { laid = with_rows self.old.base self.old.laid rowid (record_of types.now.text body.now.text ∷ []) }) }
     {
         self.push_short_values(rowid, types, body)?;
         self.end_block(rowid)

@@ -11,6 +11,7 @@ use crate::tree::Tree;
 use csv_source::NoMemory;
 use db_records::{push_integer, push_record, push_text};
 use std::alloc::Global;
+use text_pieces::Draft;
 
 /// The record of a table in the list: its kind, its name twice, the number of its root and its definition.
 pub(crate) fn list_row(
@@ -21,16 +22,16 @@ pub(crate) fn list_row(
 ) -> Result<Vec<u8>, NoMemory>
     ensures { IfOk result (λ row. row.items ≡ record_bytes (list_row name.now sql.now root)) }
 {
-    let mut types = Vec::new(alloc);
-    let mut body = Vec::new(alloc);
+    let mut types = Draft::new(alloc);
+    let mut body = Draft::new(alloc);
     push_text(&mut types, &mut body, b"table")?;
     push_text(&mut types, &mut body, name)?;
     push_text(&mut types, &mut body, name)?;
     push_integer(&mut types, &mut body, i64::from(number_of(root)?))?;
     push_text(&mut types, &mut body, sql)?;
-    let mut row = Vec::new(alloc);
+    let mut row = Draft::new(alloc);
     push_record(&mut row, &types, &body)?;
-    Ok(row)
+    Ok(row.into_text())
 }
 
 /// The tree of the list, behind so many pages.

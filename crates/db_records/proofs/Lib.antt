@@ -3,3 +3,4 @@ pub mod Records
 pub mod Cells
 pub mod Pages
 mod LastBytes
+mod Serials

@@ -1,12 +1,29 @@
 // The cells of rows.
-ghost use Rattle.std.specs.Prelude.{◌≡◌, ◌+◌, ◌≤◌, ◌<◌, ◌++◌, length, OnOk};
+ghost use Rattle.std.specs.Prelude.{◌≡◌, ◌+◌, ◌≤◌, ◌<◌, ◌++◌, [], ◌∷◌, length, OnOk};
 ghost use Rattle.db_records.specs.Cell.{cell_bytes};
 ghost use Rattle.db_records.specs.Record.{record_of};
 ghost use Rattle.db_records.specs.Varint.{varint};
 
-use crate::appending::append;
 use crate::varint::{four_digits, push_varint, three_digits, varint_len};
 use csv_source::NoMemory;
+use text_pieces::Draft;
+
+/// How many bytes stand before a record of so many in its cell: its length and its rowid.
+#[inline(always)]
+pub fn cell_head_len(len: usize, rowid: u64) -> usize
+    ensures value { result ≡ length (varint len) + length (varint rowid) }
+    ensures within { result ≤ 16 }
+{
+    varint_len(len as u64) + varint_len(rowid)
+}
+
+/// Appends what stands before a record of so many bytes in its cell.
+pub fn push_cell_head(into: &mut Draft, len: usize, rowid: u64) -> Result<(), NoMemory>
+    ensures ok { OnOk result (into.new.text ≡ into.old.text ++ (varint len ++ varint rowid)) }
+{
+    push_varint(into, len as u64)?;
+    push_varint(into, rowid)
+}
 
 /// How many bytes the cell of a row has.
 #[inline(always)]
@@ -15,62 +32,62 @@ pub fn cell_len(rowid: u64, row: &[u8]) -> usize
     ensures value { result ≡ length (cell_bytes rowid row.now) }
     ensures within { result ≤ 4077 }
 {
-    varint_len(row.len() as u64) + varint_len(rowid) + row.len()
+    cell_head_len(row.len(), rowid) + row.len()
 }
 
-/// Appends what stands before a record in its cell: its length and its rowid.
+/// Appends the cell of a row, whose record stays whole in it.
 #[inline(always)]
-fn push_cell_head(into: &mut Vec<u8>, len: u64, rowid: u64) -> Result<(), NoMemory>
-    ensures ok { OnOk result (into.new.items ≡ into.old.items ++ (varint len ++ varint rowid)) }
+pub fn push_cell(into: &mut Draft, rowid: u64, row: &[u8]) -> Result<(), NoMemory>
+    ensures ok { OnOk result (into.new.text ≡ into.old.text ++ cell_bytes rowid row.now) }
 {
-    // Most records are short, and most rowids of large tables have three bytes or four.
-    if len < 1 << 7 && rowid >= 1 << 14 && rowid < 1 << 21 {
-        let [first, second, last] = three_digits(rowid);
-        return append(into, &[len as u8, first, second, last]);
-    }
-    if len < 1 << 7 && rowid >= 1 << 21 && rowid < 1 << 28 {
-        let [first, second, third, last] = four_digits(rowid);
-        return append(into, &[len as u8, first, second, third, last]);
-    }
-    push_varint(into, len)?;
-    push_varint(into, rowid)
+    push_cell_head(into, row.len(), rowid)?;
+    into.append(row)
 }
 
 /// How many bytes the cell of a row has whose record is made of few types and some values.
 #[inline(always)]
-pub fn values_cell_len(rowid: u64, types: &[u8], body: &[u8]) -> usize
-    requires few { length types.now < 127 }
-    requires short { length types.now + length body.now < 4061 }
-    ensures value { result ≡ length (cell_bytes rowid (record_of types.now body.now)) }
+pub fn values_cell_len(rowid: u64, types: &Draft, body: &Draft) -> usize
+    requires few { length types.now.text < 127 }
+    requires short { length types.now.text + length body.now.text < 4061 }
+    ensures value { result ≡ length (cell_bytes rowid (record_of types.now.text body.now.text)) }
     ensures within { result ≤ 4077 }
 {
     let len = 1 + types.len() + body.len();
-    varint_len(len as u64) + varint_len(rowid) + len
+    cell_head_len(len, rowid) + len
+}
+
+/// Appends what stands before the types of a record in its cell: its length, its rowid and the size of its header.
+#[inline(always)]
+fn push_values_head(into: &mut Draft, len: usize, rowid: u64, header: u8) -> Result<(), NoMemory>
+    ensures ok { OnOk result (into.new.text ≡ into.old.text ++ (varint len ++ (varint rowid ++ header ∷ []))) }
+{
+    // Most records are short, and most rowids of large tables have three bytes or four. Eight bytes are stored at once.
+    if len < 1 << 7 && rowid >= 1 << 14 && rowid < 1 << 21 {
+        let [first, second, last] = three_digits(rowid);
+        return into.append_front(&[len as u8, first, second, last, header, 0, 0, 0], 5);
+    }
+    if len < 1 << 7 && rowid >= 1 << 21 && rowid < 1 << 28 {
+        let [first, second, third, last] = four_digits(rowid);
+        return into.append_front(&[len as u8, first, second, third, last, header, 0, 0], 6);
+    }
+    push_cell_head(into, len, rowid)?;
+    into.push(header)
 }
 
 /// Appends the cell of a row whose record is made of few types and some values, and stays whole in it.
 #[inline(always)]
 pub fn push_values_cell(
-    into: &mut Vec<u8>,
+    into: &mut Draft,
     rowid: u64,
-    types: &[u8],
-    body: &[u8],
+    types: &Draft,
+    body: &Draft,
 ) -> Result<(), NoMemory>
-    requires few { length types.now < 127 }
-    requires short { length types.now + length body.now < 4061 }
-    ensures ok { OnOk result (into.new.items ≡ into.old.items ++ cell_bytes rowid (record_of types.now body.now)) }
+    requires few { length types.now.text < 127 }
+    requires short { length types.now.text + length body.now.text < 4061 }
+    ensures ok { OnOk result (into.new.text ≡ into.old.text ++ cell_bytes rowid (record_of types.now.text body.now.text)) }
 {
-    push_cell_head(into, (1 + types.len() + body.len()) as u64, rowid)?;
-    into.push(types.len() as u8 + 1)?;
-    append(into, types)?;
-    append(into, body)
-}
-
-/// Appends the cell of a row, whose record stays whole in it.
-#[inline(always)]
-pub fn push_cell(into: &mut Vec<u8>, rowid: u64, row: &[u8]) -> Result<(), NoMemory>
-    ensures ok { OnOk result (into.new.items ≡ into.old.items ++ cell_bytes rowid row.now) }
-{
-    push_cell_head(into, row.len() as u64, rowid)?;
-    append(into, row)
+    let len = 1 + types.len() + body.len();
+    push_values_head(into, len, rowid, types.len() as u8 + 1)?;
+    into.append_draft(types)?;
+    into.append_draft(body)
 }

@@ -16,8 +16,10 @@ mod values;
 mod varint;
 
 pub use appending::{append, push_zeros};
-pub use cell::{cell_len, push_cell, push_values_cell, values_cell_len};
+pub use cell::{
+    cell_head_len, cell_len, push_cell, push_cell_head, push_values_cell, values_cell_len,
+};
 pub use leaf::push_leaf;
 pub use record::push_record;
-pub use values::{push_blob, push_integer, push_null, push_text, push_text_type, push_truth};
+pub use values::{push_blob, push_integer, push_null, push_printed, push_text, push_truth};
 pub use varint::{push_varint, varint_len};

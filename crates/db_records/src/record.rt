@@ -2,9 +2,9 @@
 ghost use Rattle.std.specs.Prelude.{◌≡◌, ◌++◌, ◌<◌, ◌^◌, length, OnOk};
 ghost use Rattle.db_records.specs.Record.{header_size, record_of};
 
-use crate::appending::append;
 use crate::varint::push_varint;
 use csv_source::NoMemory;
+use text_pieces::Draft;
 
 /// From so many bytes of types on a header isn't counted.
 const MOST_TYPES: usize = 1 << 62;
@@ -26,13 +26,13 @@ fn header_size(types: u64) -> u64
 
 /// Appends the record of these types and values.
 #[inline(always)]
-pub fn push_record(into: &mut Vec<u8>, types: &[u8], body: &[u8]) -> Result<(), NoMemory>
-    ensures ok { OnOk result (into.new.items ≡ into.old.items ++ record_of types.now body.now) }
+pub fn push_record(into: &mut Draft, types: &Draft, body: &Draft) -> Result<(), NoMemory>
+    ensures ok { OnOk result (into.new.text ≡ into.old.text ++ record_of types.now.text body.now.text) }
 {
     if types.len() >= MOST_TYPES {
         return Err(NoMemory);
     }
     push_varint(into, header_size(types.len() as u64))?;
-    append(into, types)?;
-    append(into, body)
+    into.append_draft(types)?;
+    into.append_draft(body)
 }

@@ -2,16 +2,16 @@
 ghost use Rattle.std.specs.Prelude.{◌≡◌, ◌≤◌, ◌<◌, ◌^◌, ◌++◌, length, OnOk};
 ghost use Rattle.db_records.specs.Varint.{digits_before, marked, varint};
 
-use crate::appending::append;
 use csv_source::NoMemory;
+use text_pieces::Draft;
 
 /// Appends the last digits of a number to base 128, as many as asked, each with the mark that more follow.
-fn push_marked(into: &mut Vec<u8>, count: u32, value: u64) -> Result<(), NoMemory>
-    ensures ok { OnOk result (into.new.items ≡ into.old.items ++ marked count value) }
+fn push_marked(into: &mut Draft, count: u32, value: u64) -> Result<(), NoMemory>
+    ensures ok { OnOk result (into.new.text ≡ into.old.text ++ marked count value) }
 {
     if count > 0 {
         push_marked(into, count - 1, value / 128)?;
-        append(into, &[128 + (value % 128) as u8])?;
+        into.append(&[128 + (value % 128) as u8])?;
     }
     Ok(())
 }
@@ -79,35 +79,42 @@ pub(crate) fn four_digits(value: u64) -> [u8; 4]
 }
 
 /// Appends a number of three bytes or more.
-fn push_long_varint(into: &mut Vec<u8>, value: u64) -> Result<(), NoMemory>
+fn push_long_varint(into: &mut Draft, value: u64) -> Result<(), NoMemory>
     requires long { 2 ^ 14 ≤ value }
-    ensures ok { OnOk result (into.new.items ≡ into.old.items ++ varint value) }
+    ensures ok { OnOk result (into.new.text ≡ into.old.text ++ varint value) }
 {
     // Most rowids of large tables have three bytes or four.
     if value < 1 << 21 {
-        return append(into, &three_digits(value));
+        return into.append(&three_digits(value));
     }
     if value < 1 << 28 {
-        return append(into, &four_digits(value));
+        return into.append(&four_digits(value));
     }
     push_marked(into, digits_before(value), value / 128)?;
-    append(into, &[(value % 128) as u8])
+    into.append(&[(value % 128) as u8])
+}
+
+/// Appends a number of one byte.
+#[inline(always)]
+pub(crate) fn push_small(into: &mut Draft, value: u64) -> Result<(), NoMemory>
+    requires small { value < 128 }
+    ensures ok { OnOk result (into.new.text ≡ into.old.text ++ varint value) }
+{
+    into.push(value as u8)
 }
 
 /// Appends a number in its shortest form, where it is below 2^56: of a larger one the last eight digits.
 #[inline(always)]
-pub fn push_varint(into: &mut Vec<u8>, value: u64) -> Result<(), NoMemory>
-    ensures ok { OnOk result (into.new.items ≡ into.old.items ++ varint value) }
+pub fn push_varint(into: &mut Draft, value: u64) -> Result<(), NoMemory>
+    ensures ok { OnOk result (into.new.text ≡ into.old.text ++ varint value) }
 {
     // Most numbers of a row have one byte or two.
     if value < 1 << 7 {
-        into.push(value as u8)?;
-        return Ok(());
+        return push_small(into, value);
     }
     if value < 1 << 14 {
         into.push(128 + (value / 128) as u8)?;
-        into.push((value % 128) as u8)?;
-        return Ok(());
+        return into.push((value % 128) as u8);
     }
     push_long_varint(into, value)
 }

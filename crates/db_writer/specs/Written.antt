@@ -3,8 +3,7 @@ use Rattle.std.specs.Prelude.{ℕ, ◌+◌, List, [], ◌∷◌, ◌++◌, lengt
 use Rattle.sqlite_value.specs.declared.value.Value.{Value}
 use Rattle.sqlite_value.specs.Order.{Row}
 use Rattle.value_types.specs.Datum.{Datum}
-use Rattle.db_records.specs.Varint.{varint}
-use Rattle.db_records.specs.Record.{type_bytes, value_bytes, header_size, record_bytes}
+use Rattle.db_records.specs.Record.{type_bytes, value_bytes, record_bytes, record_of}
 use Rattle.db_pages.specs.Grown.{Filled, filled}
 use Rattle.db_pages.specs.Laid.{with_rows}
 use Rattle.db_writer.specs.Stored.{stored_row}
@@ -16,10 +15,6 @@ pub record Values : Type 0 where
 
 abbrev pub no_values : Values
 no_values = record { types = []; body = [] }
-
--- their record: the header, and the values behind one another
-abbrev pub record_of : Values → List ℕ
-record_of values = varint (header_size (length values.types)) ++ values.types ++ values.body
 
 -- the rows that are laid out, the rowid of the next one, and its values so far
 pub record Written : Type 0 where
@@ -43,7 +38,7 @@ with_values w row = record
 
 -- with the row under way laid out, and its values still at hand
 abbrev pub with_laid_row : Written → Written
-with_laid_row w = record w { rows = record w.rows { laid = with_rows w.rows.base w.rows.laid w.next (record_of w.values ∷ []) } }
+with_laid_row w = record w { rows = record w.rows { laid = with_rows w.rows.base w.rows.laid w.next (record_of w.values.types w.values.body ∷ []) } }
 
 -- with rows more, by their records
 abbrev pub with_records : Written → List (List ℕ) → Written

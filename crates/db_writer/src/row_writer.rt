@@ -5,19 +5,20 @@ ghost use Rattle.value_types.specs.Spelled.{IsSpelled, IsSpelledCell};
 ghost use Rattle.std.specs.Str.{is_utf8};
 ghost use Rattle.value_types.specs.ValueText.{value_text};
 ghost use Rattle.value_types.specs.Datum.{datum_of};
-ghost use Rattle.db_records.specs.Record.{IsWritable};
+ghost use Rattle.db_records.specs.Record.{IsWritable, record_of};
 ghost use Rattle.db_writer.specs.Stored.{stored_cell, stored_value, text_or_blob};
-ghost use Rattle.db_writer.specs.Written.{nothing_written, record_of, with_laid_row, with_records, with_value};
+ghost use Rattle.db_writer.specs.Written.{nothing_written, with_laid_row, with_records, with_value};
 
 use column_store::Chunk;
 use csv_source::NoMemory;
 use db_pages::Leaves;
 use db_records::{
-    push_blob, push_integer, push_null, push_record, push_text, push_text_type, push_truth,
+    push_blob, push_integer, push_null, push_printed, push_record, push_text, push_truth,
 };
 use std::alloc::Global;
 use std::marker::Model;
-use value_types::{Cell, Value, write_value};
+use text_pieces::Draft;
+use value_types::{Cell, Value};
 
 /// About how many bytes a cell takes in a leaf.
 const CELL_ROOM: usize = 16;
@@ -34,9 +35,9 @@ const MOST_WHOLE: usize = 4061;
 pub(crate) struct RowWriter {
     leaves: Leaves,
     next: u64,
-    types: Vec<u8>,
-    body: Vec<u8>,
-    bytes: Vec<u8>,
+    types: Draft,
+    body: Draft,
+    bytes: Draft,
 }
 
 impl Model for RowWriter {
@@ -44,7 +45,7 @@ impl Model for RowWriter {
 
     ghost Value = { Written };
 
-    ghost view = { λ w. record { rows = w.leaves; next = w.next; values = record { types = w.types.items; body = w.body.items } } };
+    ghost view = { λ w. record { rows = w.leaves; next = w.next; values = record { types = w.types.text; body = w.body.text } } };
 }
 
 /// Whether bytes are UTF-8.
@@ -62,9 +63,9 @@ impl RowWriter {
         RowWriter {
             leaves: Leaves::new(alloc, base),
             next: first,
-            types: Vec::new(alloc),
-            body: Vec::new(alloc),
-            bytes: Vec::new(alloc),
+            types: Draft::new(alloc),
+            body: Draft::new(alloc),
+            bytes: Draft::new(alloc),
         }
     }
 
@@ -81,7 +82,7 @@ impl RowWriter {
         requires { row < length chunk.now.rows }
         ensures { self.new ≡ self.old }
     {
-        let _ = self.body.reserve(chunk.coming_room(row));
+        self.body.reserve(chunk.coming_room(row));
     }
 
     /// Appends NULL.
@@ -144,9 +145,7 @@ impl RowWriter {
         requires { IsSpelled value }
         ensures ok { OnOk result (self.new ≡ with_value self.old (stored.Text (value_text value))) }
     {
-        let before = self.body.len();
-        write_value(&value, &mut self.body)?;
-        push_text_type(&mut self.types, self.body.len() - before)
+        push_printed(&mut self.types, &mut self.body, &value)
     }
 
     /// Appends a value of a column: a date or a time as its text.
@@ -185,19 +184,19 @@ impl RowWriter {
         if self.types.len() < FEW_TYPES && self.body.len() < MOST_WHOLE - self.types.len() {
             return self.leaves.push_values(self.next, &self.types, &self.body);
         }
-        self.bytes.clear();
+        self.bytes.truncate(0);
         push_record(&mut self.bytes, &self.types, &self.body)?;
-        self.leaves.push(self.next, &self.bytes)
+        self.leaves.push(self.next, self.bytes.text())
     }
 
     /// Ends the row under way. More rows than can be counted aren't taken.
     #[inline(always)]
     pub(crate) fn end_row(&mut self) -> Result<(), NoMemory>
-        ensures ok { OnOk result (self.new ≡ with_records self.old (record_of self.old.values ∷ [])) }
+        ensures ok { OnOk result (self.new ≡ with_records self.old (record_of self.old.values.types self.old.values.body ∷ [])) }
     {
         self.lay_row()?;
-        self.types.clear();
-        self.body.clear();
+        self.types.truncate(0);
+        self.body.truncate(0);
         self.next = self.next.checked_add(1).ok_or(NoMemory)?;
         Ok(())
     }

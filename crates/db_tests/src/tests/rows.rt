@@ -4,11 +4,12 @@ use csv_source::NoMemory;
 use db_pages::Leaves;
 use db_records::{push_integer, push_null, push_record, push_text};
 use std::alloc::Global;
+use text_pieces::Draft;
 
 /// Appends the value of a column of a row: null now and then, else a number of one to eight bytes.
 fn push_number(
-    types: &mut Vec<u8>,
-    body: &mut Vec<u8>,
+    types: &mut Draft,
+    body: &mut Draft,
     rowid: u64,
     column: u64,
 ) -> Result<(), NoMemory> {
@@ -29,14 +30,14 @@ fn push_number(
 
 /// The record of a row of so many numbers.
 fn numbers_row(alloc: Global, rowid: u64, columns: u64) -> Result<Vec<u8>, NoMemory> {
-    let mut types = Vec::new(alloc);
-    let mut body = Vec::new(alloc);
+    let mut types = Draft::new(alloc);
+    let mut body = Draft::new(alloc);
     for column in 0..columns {
         push_number(&mut types, &mut body, rowid, column)?;
     }
-    let mut row = Vec::new(alloc);
+    let mut row = Draft::new(alloc);
     push_record(&mut row, &types, &body)?;
-    Ok(row)
+    Ok(row.into_text())
 }
 
 /// Rows of numbers, from the first on.
@@ -58,13 +59,13 @@ pub(crate) fn numbers(
 fn text_row(alloc: Global, rowid: u64, length: u32) -> Result<Vec<u8>, NoMemory> {
     let mut text = Vec::new(alloc);
     text.resize(length as usize, b'a' + (rowid % 26) as u8)?;
-    let mut types = Vec::new(alloc);
-    let mut body = Vec::new(alloc);
+    let mut types = Draft::new(alloc);
+    let mut body = Draft::new(alloc);
     push_integer(&mut types, &mut body, i64::from(length))?;
     push_text(&mut types, &mut body, &text)?;
-    let mut row = Vec::new(alloc);
+    let mut row = Draft::new(alloc);
     push_record(&mut row, &types, &body)?;
-    Ok(row)
+    Ok(row.into_text())
 }
 
 /// Appends texts of these lengths behind so many other rows.

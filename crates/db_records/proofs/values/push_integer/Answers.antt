@@ -17,5 +17,5 @@ returns-clause-body c =
     let size : c.int_size-size.result ≡ serial_size (int_serial n) = c.int_size-size.ensures ∙ ap serial_size serial in
     let bits : c.cast_unsigned.result ≡ of_z w64 n = grind (arith, to_z-of_z) in
     IfOk-weaker c.push_last_bytes.result _ _
-    (λ _ out. out ∙ ap (λ k. c.args.body.now.items ++ bytes_high_first k c.cast_unsigned.result) size ∙ ap (λ x. c.args.body.now.items ++ bytes_high_first (serial_size (int_serial n)) x) bits)
+    (λ _ out. out ∙ ap (λ k. c.args.body.now.text ++ bytes_high_first k c.cast_unsigned.result) size ∙ ap (λ x. c.args.body.now.text ++ bytes_high_first (serial_size (int_serial n)) x) bits)
     c.push_last_bytes.ensures.ok

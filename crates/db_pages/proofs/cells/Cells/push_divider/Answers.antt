@@ -10,7 +10,7 @@ pub invariant_of-self-in-Ok : goal.invariant_of-self-in-Ok
 invariant_of-self-in-Ok c =
     let cell : List ℕ = four_bytes (number_of c.args.child.place) ++ varint c.args.child.last in
     let size : 4 + c.varint_len.result ≡ length cell = omega (arith, c.varint_len.ensures.value, length-append (four_bytes (number_of c.args.child.place)) (varint c.args.child.last)) in
-    fits_with c.self.inside.sizes.items c.self.inside.bytes.items _ _ c.args.self.now cell _ c.self.view_is c.self.invariant
+    fits_with c.self.inside.sizes.items c.self.inside.bytes.text _ _ c.args.self.now cell _ c.self.view_is c.self.invariant
     size c.in_ok-push.ensures.items c.in-Ok.ensures.ok (omega (arith, size, c.varint_len.ensures.within, c.requires.room))
 
 pub returns-in-Ok : goal.returns-in-Ok
@@ -18,8 +18,8 @@ returns-in-Ok c =
     let cell : List ℕ = four_bytes (number_of c.args.child.place) ++ varint c.args.child.last in
     let cells : List (List ℕ) = c.args.self.now in
     let size : 4 + c.varint_len.result ≡ length cell = omega (arith, c.varint_len.ensures.value, length-append (four_bytes (number_of c.args.child.place)) (varint c.args.child.last)) in
-    let is : cut c.push.new.self.items c.push_divider_cell.new.into.items ≡ cells ++ cell ∷ [] =
-    cells_more c.self.inside.sizes.items c.self.inside.bytes.items _ _ cells cell _ c.self.view_is c.self.invariant
+    let is : cut c.push.new.self.items c.push_divider_cell.new.into.text ≡ cells ++ cell ∷ [] =
+    cells_more c.self.inside.sizes.items c.self.inside.bytes.text _ _ cells cell _ c.self.view_is c.self.invariant
     size c.in_ok-push.ensures.items c.in-Ok.ensures.ok in
     record {
       ok = is;

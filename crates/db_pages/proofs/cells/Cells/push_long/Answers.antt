@@ -8,7 +8,7 @@ pub invariant_of-self-in-Ok : goal.invariant_of-self-in-Ok
 invariant_of-self-in-Ok c =
     let cell : List ℕ = long_cell c.args.place c.args.rowid c.args.row.now in
     let size : c.long_cell_len.result ≡ length cell = c.long_cell_len.ensures.value ∙ sym (long_cell_size c.args.place c.args.rowid c.args.row.now) in
-    fits_with c.self.inside.sizes.items c.self.inside.bytes.items _ _ c.args.self.now cell _ c.self.view_is c.self.invariant
+    fits_with c.self.inside.sizes.items c.self.inside.bytes.text _ _ c.args.self.now cell _ c.self.view_is c.self.invariant
     size c.in_ok-push.ensures.items c.in-Ok.ensures.ok (omega (arith, long_cell_size c.args.place c.args.rowid c.args.row.now, c.requires.room))
 
 pub returns-in-Ok : goal.returns-in-Ok
@@ -16,6 +16,6 @@ returns-in-Ok c =
     let cell : List ℕ = long_cell c.args.place c.args.rowid c.args.row.now in
     let size : c.long_cell_len.result ≡ length cell = c.long_cell_len.ensures.value ∙ sym (long_cell_size c.args.place c.args.rowid c.args.row.now) in
     record {
-      ok = cells_more c.self.inside.sizes.items c.self.inside.bytes.items _ _ c.args.self.now cell _ c.self.view_is c.self.invariant
+      ok = cells_more c.self.inside.sizes.items c.self.inside.bytes.text _ _ c.args.self.now cell _ c.self.view_is c.self.invariant
           size c.in_ok-push.ensures.items c.in-Ok.ensures.ok;
     }

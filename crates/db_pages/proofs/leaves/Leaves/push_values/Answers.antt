@@ -9,9 +9,9 @@ use Rattle.db_pages.proofs.leaves.Leaves.push_values.Goals as goal
 pub returns : goal.returns
 returns c =
     let before : Filled = c.args.self.now in
-    let row : List ℕ = record_of c.args.types.now c.args.body.now in
+    let row : List ℕ = record_of c.args.types.now.text c.args.body.now.text in
     let row-is : with_short before.base before.laid c.args.rowid row ≡ with_row before.base before.laid c.args.rowid row =
-    sym (short-row before.base before.laid c.args.rowid c.args.types.now c.args.body.now c.requires.few c.requires.short) in
+    sym (short-row before.base before.laid c.args.rowid c.args.types.now.text c.args.body.now.text c.requires.few c.requires.short) in
     let laid : c.push_short_values.new.self ≡ record { base = before.base; laid = with_row before.base before.laid c.args.rowid row } =
     c.in_ok-push_short_values.ensures.ok ∙ ap (λ (l : Laid). record { base = before.base; laid = l }) row-is in
     record {

@@ -7,6 +7,6 @@ returns c =
     let s = c.self.inside in
     record {
       ok = on_ok_weaker c.push_truth.result
-          (λ out. truth_appended c.args.self.now s.leaves s.next s.types.items s.body.items c.push_truth.new.types.items c.args.truth c.self.view_is out)
+          (λ out. truth_appended c.args.self.now s.leaves s.next s.types.text s.body.text c.push_truth.new.types.text c.args.truth c.self.view_is c.push_truth.ensures.none out)
           c.push_truth.ensures.types;
     }
