@@ -1,12 +1,16 @@
 -- What the caller has of the queue while it reads.
-use Rattle.std.specs.Prelude.{◌≡◌, ℕ, ◌+◌, ◌<◌, ◌⊎◌, List, [], ◌++◌, length, slice_index_or}
+use Rattle.std.specs.Prelude.{◌≡◌, ℕ, ◌+◌, ◌<◌, ◌≤◌, ◌⊎◌, true, List, [], ◌++◌, length, slice_index_or, Option}
+use Rattle.std.specs.Io.KnownBytes.{IsAtEnd}
 use Rattle.crossbeam_queue.specs.Passes.{Pass, view, IsPassOf}
 use Rattle.pipe_load.specs.declared.feeding.Feed.{Feed}
+use Rattle.pipe_load.specs.declared.layout.Layout.{Layout}
+use Rattle.pipe_load.specs.declared.reader.Reader.{Reader}
 use Rattle.pipe_load.specs.declared.window.Window.{Window}
 use Rattle.pipe_load.specs.declared.windows.Windows.{Windows}
 use Rattle.pipe_load.specs.declared.pass_view.PassView.{PassView}
 use Rattle.pipe_load.specs.declared.pass_view.Role.TheVariants as roles
 use Rattle.pipe_load.specs.declared.window.Item.{Item}
+use Rattle.pipe_load.specs.Layout.{IsLayout, round_len}
 use Rattle.pipe_load.specs.Rule.{WasFull}
 
 -- each window stands at the place of its number
@@ -41,3 +45,21 @@ IsWhole marks feed = (feed.waiting.items ≡ []) × ((view feed.pass).puts ≡ l
 -- the same, or the queue was full at a moment
 abbrev pub IsFed : ℕ → Feed → Type 0
 IsFed marks feed = IsWhole marks feed ⊎ WasFull (view feed.pass)
+
+-- ---- a round
+
+-- before it is read: no window of it is cut or made
+pub record BeginsRound (windows : Windows) (left : Option (List ℕ)) (r : Reader) (f : Feed) : Type 0 where
+  pub feed : IsFeed windows (view f.pass).stages f
+  pub none : made_of f ≡ []
+  pub layout : IsLayout r.layout
+  pub start : r.number ≡ 0
+  pub at_end : r.window.ended ≡ true → IsAtEnd left
+
+-- once it was read, whatever that answered: the windows that were made are numbered, and no more than a round has; all were put, and
+-- end marks behind them, or the queue was full at a moment
+pub record HasFed (windows : Windows) (stages marks : ℕ) (l : Layout) (f : Feed) : Type 0 where
+  pub pass : IsCallers windows stages f.pass
+  pub fed : IsFed marks f
+  pub numbered : AreNumbered (made_of f)
+  pub few : length (made_of f) ≤ round_len l

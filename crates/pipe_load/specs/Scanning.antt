@@ -1,5 +1,5 @@
 -- How the ranges of windows are scanned first, and what a stage keeps.
-use Rattle.std.specs.Prelude.{◌≡◌, ℕ, ◌+◌, ◌⊎◌, ◌==◌, if◌then◌else◌, List, [], ◌∷◌, ◌++◌, length, map, All}
+use Rattle.std.specs.Prelude.{◌≡◌, ℕ, ◌+◌, ◌<◌, ◌⊎◌, ◌==◌, if◌then◌else◌, false, slice_index_or, List, [], ◌∷◌, ◌++◌, length, map, All}
 use Rattle.std.specs.List.{range_with_len}
 use Rattle.byte_classes.specs.Dialect.{Marks}
 use Rattle.quote_automaton.specs.declared.state.State.{State}
@@ -66,3 +66,17 @@ Takes context l old new took.Nothing = WasEmpty (view old.pass) × (view new.pas
 -- it took one more end mark, or the queue was empty at a moment
 abbrev pub HasEnded : Stage → Stage → Type 0
 HasEnded old new = ((view new.pass).marks_taken ≡ (view old.pass).marks_taken + 1) ⊎ WasEmpty (view new.pass)
+
+-- ---- all stages
+
+-- some stages, before they work: each has scanned what it took
+pub record AreStages (windows : Windows) (context : Context) (l : Layout) (ss : List Stage) : Type 0 where
+  pub some : 0 < length ss
+  pub stages : All (IsStage windows) ss
+  pub all : All (HasScanned context l) ss
+
+-- once they worked: each that met no want of memory has scanned what it took, to an end mark or to an empty queue
+pub record HaveWorked (windows : Windows) (context : Context) (l : Layout) (old new : List Stage) : Type 0 where
+  pub stages : All (IsStage windows) new
+  pub all : All (λ stage. stage.short ≡ false → HasScanned context l stage) new
+  pub ended : (k : ℕ) (d : Stage) → k < length old → (slice_index_or new k d).short ≡ false → HasEnded (slice_index_or old k d) (slice_index_or new k d)

@@ -1,14 +1,14 @@
 //! The caller's side of the queue while it reads.
-ghost use Rattle.std.specs.Prelude.{◌≡◌, ◌+◌, ◌<◌, ◌≤◌, ◌^◌, ◌++◌, ◌∷◌, ℕ, List, [], true, length, IsTrue, IsFalse, OnOk, OnErr, Err};
-ghost use Rattle.std.specs.Io.KnownBytes.{IsAtEnd};
+ghost use Rattle.std.specs.Prelude.{◌≡◌, ◌+◌, ◌<◌, ◌≤◌, ◌^◌, ◌++◌, ◌∷◌, [], length, IsTrue, IsFalse, OnOk, OnErr, Err};
 ghost use Rattle.crossbeam_queue.specs.Passes.{view};
 ghost use Rattle.csv_source.specs.Causes.{Rose};
-ghost use Rattle.window_load.specs.Window.{reach, ReachesOn};
+ghost use Rattle.load_options.specs.declared.limits.TheConstants.{THREADS};
+ghost use Rattle.window_load.specs.Window.{reach};
 ghost use Rattle.window_load.specs.declared.stop.LoadStop.TheVariants as stops;
-ghost use Rattle.pipe_load.specs.Feeding.{AreNumbered, IsCallers, IsFeed, IsFed, WaitsForRoom, made_of};
-ghost use Rattle.pipe_load.specs.Layout.{IsLayout, round_len};
+ghost use Rattle.pipe_load.specs.Feeding.{BeginsRound, HasFed, IsCallers, IsFeed, IsFed, WaitsForRoom, made_of};
+ghost use Rattle.pipe_load.specs.Layout.{round_len};
 ghost use Rattle.pipe_load.specs.PassViews.{with_marks};
-ghost use Rattle.pipe_load.specs.Reading.{CutsOn, EndsRound};
+ghost use Rattle.pipe_load.specs.Reading.{IsRoundRead, ReadsOn};
 ghost use Rattle.pipe_load.specs.Rule.{WasFull};
 
 use crate::reader::Reader;
@@ -68,22 +68,12 @@ impl Feed {
         reader: &mut Reader,
         source: &mut S,
     ) -> Result<(), LoadStop>
-        requires feed { IsFeed windows.now (view self.old.pass).stages self.old }
-        requires none { made_of self.old ≡ [] }
-        requires layout { IsLayout reader.old.layout }
-        requires start { reader.old.number ≡ 0 }
-        requires at_end { reader.old.window.ended ≡ true → IsAtEnd (S.left source.old) }
+        requires begins { BeginsRound windows.now (S.left source.old) reader.old self.old }
         ensures feed { IsFeed windows.now (view self.old.pass).stages self.new }
         ensures few { length (made_of self.new) ≤ round_len reader.old.layout }
-        // Whatever the answer, bytes came from the source, and the rest is left.
-        ensures moved { ReachesOn (S.left source.old) (S.left source.new) reader.old.window reader.new.window }
-        ensures ok { OnOk result ((more : List ℕ)
-            × CutsOn reader.old.layout (S.left source.old) (S.left source.new) (made_of self.new) reader.new.number reader.old.window reader.new.window more) }
-        ensures same { reader.new.layout ≡ reader.old.layout }
-        ensures counted { OnOk result (length (made_of self.new) ≡ reader.new.number) }
-        ensures whole { OnOk result (EndsRound reader.old.layout reader.new.number reader.new.window) }
+        ensures moved { ReadsOn (S.left source.old) (S.left source.new) reader.old reader.new }
+        ensures ok { OnOk result (IsRoundRead (S.left source.old) (S.left source.new) (made_of self.new) reader.old reader.new) }
         ensures too_large { result ≡ Err stops.TooLarge → reach reader.new.window ≡ reader.new.window.most + 1 }
-        ensures at_end { reader.new.window.ended ≡ true → IsAtEnd (S.left source.new) }
         ensures held { S.held source.new ≡ S.held source.old }
         ensures count { S.faults source.old ≤ S.faults source.new }
         ensures failed { result ≡ Err stops.Failed → Rose (S.faults source.old) (S.faults source.new) }
@@ -163,7 +153,7 @@ impl Feed {
     fn put_to_end<R: Wait>(&mut self, rt: &R, windows: &Windows, stages: usize)
         requires feed { IsFeed windows.now (view self.old.pass).stages self.old }
         requires few { length (made_of self.old) < 2 ^ 39 }
-        requires stages { stages ≤ 64 }
+        requires stages { stages ≤ THREADS.most }
         ensures pass { IsCallers windows.now (view self.old.pass).stages self.new.pass }
         ensures same { made_of self.new ≡ made_of self.old }
         ensures fed { IsFed stages self.new }
@@ -184,26 +174,12 @@ impl Feed {
         source: &mut S,
         stages: usize,
     ) -> Result<(), LoadStop>
-        requires feed { IsFeed windows.now (view self.old.pass).stages self.old }
-        requires none { made_of self.old ≡ [] }
-        requires layout { IsLayout reader.old.layout }
-        requires start { reader.old.number ≡ 0 }
-        requires at_end { reader.old.window.ended ≡ true → IsAtEnd (S.left source.old) }
-        requires stages { stages ≤ 64 }
-        ensures pass { IsCallers windows.now (view self.old.pass).stages self.new.pass }
-        // Whatever the answer, all windows were put and all end marks, or the queue was full at a moment.
-        ensures fed { IsFed stages self.new }
-        ensures numbered { AreNumbered (made_of self.new) }
-        ensures few { length (made_of self.new) ≤ round_len reader.old.layout }
-        // Whatever the answer, bytes came from the source, and the rest is left.
-        ensures moved { ReachesOn (S.left source.old) (S.left source.new) reader.old.window reader.new.window }
-        ensures ok { OnOk result ((more : List ℕ)
-            × CutsOn reader.old.layout (S.left source.old) (S.left source.new) (made_of self.new) reader.new.number reader.old.window reader.new.window more) }
-        ensures same { reader.new.layout ≡ reader.old.layout }
-        ensures counted { OnOk result (length (made_of self.new) ≡ reader.new.number) }
-        ensures whole { OnOk result (EndsRound reader.old.layout reader.new.number reader.new.window) }
+        requires begins { BeginsRound windows.now (S.left source.old) reader.old self.old }
+        requires stages { stages ≤ THREADS.most }
+        ensures fed { HasFed windows.now (view self.old.pass).stages stages reader.old.layout self.new }
+        ensures moved { ReadsOn (S.left source.old) (S.left source.new) reader.old reader.new }
+        ensures ok { OnOk result (IsRoundRead (S.left source.old) (S.left source.new) (made_of self.new) reader.old reader.new) }
         ensures too_large { result ≡ Err stops.TooLarge → reach reader.new.window ≡ reader.new.window.most + 1 }
-        ensures at_end { reader.new.window.ended ≡ true → IsAtEnd (S.left source.new) }
         ensures held { S.held source.new ≡ S.held source.old }
         ensures count { S.faults source.old ≤ S.faults source.new }
         ensures failed { result ≡ Err stops.Failed → Rose (S.faults source.old) (S.faults source.new) }

@@ -3,7 +3,7 @@ ghost use Rattle.std.specs.Prelude.{◌≡◌, ◌+◌, ◌≤◌, ◌<◌, ◌^
 ghost use Rattle.std.specs.Io.KnownBytes.{Consumes, IsAtEnd};
 ghost use Rattle.csv_source.specs.Causes.{Rose};
 ghost use Rattle.reject_book.specs.declared.book.Keep.TheVariants.{First as first_of};
-ghost use Rattle.load_options.specs.declared.limits.TheConstants.{MAX_LINE_SIZE, RANGE_SIZE};
+ghost use Rattle.load_options.specs.declared.limits.TheConstants.{MAX_LINE_SIZE, RANGE_SIZE, THREADS};
 ghost use Rattle.range_scan.specs.Scanned.{HasColumns};
 ghost use Rattle.window_load.specs.DataRead.{IsWindowRead, Comes, ComesWhole, ComesOver};
 ghost use Rattle.window_load.specs.Window.{reach};
@@ -35,7 +35,7 @@ fn load_rounds<R: Threads + Wait + Sync, S: Source + Send, G: Gate>(
     requires at_end { window.ended ≡ true → IsAtEnd (S.left source.old) }
     requires room { window.most ≤ 2 ^ 32 }
     requires fits { HasColumns loader.now.context.now.schema }
-    requires threads { (1 ≤ loader.now.threads) × (loader.now.threads ≤ 64) }
+    requires threads { (1 ≤ loader.now.threads) × (loader.now.threads ≤ THREADS.most) }
     // Whatever the answer, bytes came from the source, and the rest is left.
     ensures moved { Comes (S.left source.old) (S.left source.new) }
     ensures ok { IfOk result (λ read. (came : List ℕ) × IsAllRead loader.now.context.now layout.data_start layout.range_size window (S.left source.old) (S.left source.new) came read) }
@@ -74,7 +74,7 @@ pub fn pipe_load<R: Threads + Wait + Sync, S: Source + Send, G: Gate>(
     requires within { loader.now.range_size ≤ RANGE_SIZE.most }
     requires line { loader.now.context.now.schema.max_line_size ≤ MAX_LINE_SIZE.most }
     requires fits { HasColumns loader.now.context.now.schema }
-    requires threads { (1 ≤ loader.now.threads) × (loader.now.threads ≤ 64) }
+    requires threads { (1 ≤ loader.now.threads) × (loader.now.threads ≤ THREADS.most) }
     requires keep { loader.now.stop ≡ true → loader.now.context.now.keep ≡ first_of 1 }
 
     // All of the data were read, and nothing is left.

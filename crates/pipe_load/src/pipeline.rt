@@ -1,5 +1,6 @@
 //! What a round of a pipelined load works with.
 ghost use Rattle.std.specs.Prelude.{◌≤◌};
+ghost use Rattle.load_options.specs.declared.limits.TheConstants.{THREADS};
 ghost use Rattle.pipe_load.specs.Loading.{HasReach};
 
 use crate::scanner::Scanner;
@@ -13,6 +14,6 @@ pub struct Pipeline<'r, 'a, R: Threads + Wait + Sync, G: Gate> {
     pub rt: &'r R,
     pub scanner: Scanner<'a, G>,
     pub threads: u32,
-    ghost within: { (1 ≤ threads) × (threads ≤ 64) },
+    ghost within: { (1 ≤ threads) × (threads ≤ THREADS.most) },
     ghost reaches: { HasReach scanner.ranges.context.now scanner.layout },
 }

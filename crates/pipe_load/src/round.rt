@@ -2,12 +2,13 @@
 ghost use Rattle.std.specs.Prelude.{◌≡◌, ◌+◌, ◌≤◌, ◌<◌, ℕ, List, true, OnOk, Err, length};
 ghost use Rattle.std.specs.Io.KnownBytes.{IsAtEnd};
 ghost use Rattle.csv_source.specs.Causes.{Rose};
+ghost use Rattle.load_options.specs.declared.limits.TheConstants.{THREADS};
 ghost use Rattle.range_scan.specs.Scanned.{HasColumns};
-ghost use Rattle.window_load.specs.Window.{reach, ReachesOn};
+ghost use Rattle.window_load.specs.Window.{reach};
 ghost use Rattle.window_load.specs.declared.stop.LoadStop.TheVariants as stops;
 ghost use Rattle.pipe_load.specs.Layout.{IsLayout, round_len};
 ghost use Rattle.pipe_load.specs.Loading.{HasReach, AddsRound};
-ghost use Rattle.pipe_load.specs.Reading.{EndsRound};
+ghost use Rattle.pipe_load.specs.Reading.{EndsRound, ReadsOn};
 
 use crate::feeding::Feed;
 use crate::joining::Counted;
@@ -31,7 +32,7 @@ pub fn round_of<'r, R: Threads + Wait + Sync, G: Gate>(
     requires layout { IsLayout reader.now.layout }
     requires reach { HasReach loader.now.context.now reader.now.layout }
     requires fits { HasColumns loader.now.context.now.schema }
-    requires threads { (1 ≤ loader.now.threads) × (loader.now.threads ≤ 64) }
+    requires threads { (1 ≤ loader.now.threads) × (loader.now.threads ≤ THREADS.most) }
     ensures layout { result.scanner.layout ≡ reader.now.layout }
     ensures context { result.scanner.ranges.context.now ≡ loader.now.context.now }
 {
@@ -64,14 +65,12 @@ impl<'r, 'a, R: Threads + Wait + Sync, G: Gate> Pipeline<'r, 'a, R, G> {
         requires at_end { reader.old.window.ended ≡ true → IsAtEnd (S.left source.old) }
         requires types { counted.old.joined.table.types ≡ self.now.scanner.ranges.context.now.schema.types }
         requires keep { counted.old.joined.book.keep ≡ self.now.scanner.ranges.context.now.keep }
-        ensures moved { ReachesOn (S.left source.old) (S.left source.new) reader.old.window reader.new.window }
+        ensures moved { ReadsOn (S.left source.old) (S.left source.new) reader.old reader.new }
         ensures ok { OnOk result ((more : List ℕ) × AddsRound self.now.scanner.ranges.context.now self.now.scanner.layout (S.left source.old) (S.left source.new)
             reader.new.number reader.old.window reader.new.window more counted.old counted.new) }
-        ensures same { reader.new.layout ≡ reader.old.layout }
         ensures few { OnOk result (reader.new.number ≤ round_len reader.old.layout) }
         ensures whole { OnOk result (EndsRound reader.old.layout reader.new.number reader.new.window) }
         ensures too_large { result ≡ Err stops.TooLarge → reach reader.new.window ≡ reader.new.window.most + 1 }
-        ensures at_end { reader.new.window.ended ≡ true → IsAtEnd (S.left source.new) }
         ensures held { S.held source.new ≡ S.held source.old }
         ensures count { S.faults source.old ≤ S.faults source.new }
         ensures failed { result ≡ Err stops.Failed → Rose (S.faults source.old) (S.faults source.new) }
@@ -83,7 +82,7 @@ impl<'r, 'a, R: Threads + Wait + Sync, G: Gate> Pipeline<'r, 'a, R, G> {
             pass,
             waiting: VecDeque::new(alloc),
         };
-        match self.read_beside(&windows, reader, source, &mut feed, &mut stages) {
+        match self.read_beside(&windows, reader, source, &mut feed, stages.as_mut_slice()) {
             Ok(()) => {}
             Err(stop) => return Err(stop),
         }

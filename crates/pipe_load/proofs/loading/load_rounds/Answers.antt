@@ -33,13 +33,13 @@ pub returns-in_err-load_round-clause-moved : goal.returns-in_err-load_round-clau
 returns-in_err-load_round-clause-moved g c =
     let inv = c.loop-counted.invariant in
     let on = comes_on c.args.loader.now.context.now c.loop-counted.reader.layout inv.lies c.args.window (g.S.Source.left c.args.source.now) (g.S.Source.left c.loop-counted.source) (g.S.Source.left c.load_round.new.source)
-    c.loop-counted.reader.window c.load_round.new.reader.window c.loop-counted.counted inv.up_to c.load_round.ensures.moved in (on.0, on.1)
+    c.loop-counted.reader.window c.load_round.new.reader.window c.loop-counted.counted inv.up_to c.load_round.ensures.moved.moved in (on.0, on.1)
 
 pub returns-in_err-load_round-clause-too_large : goal.returns-in_err-load_round-clause-too_large
 returns-in_err-load_round-clause-too_large g c = λ e.
     let inv = c.loop-counted.invariant in
     let on = comes_on c.args.loader.now.context.now c.loop-counted.reader.layout inv.lies c.args.window (g.S.Source.left c.args.source.now) (g.S.Source.left c.loop-counted.source) (g.S.Source.left c.load_round.new.source)
-    c.loop-counted.reader.window c.load_round.new.reader.window c.loop-counted.counted inv.up_to c.load_round.ensures.moved in
+    c.loop-counted.reader.window c.load_round.new.reader.window c.loop-counted.counted inv.up_to c.load_round.ensures.moved.moved in
     let over : reach c.load_round.new.reader.window ≡ c.load_round.new.reader.window.most + 1 = search rules in
     let far = on.2 in let most = on.3 in (on.0, on.1, omega (arith, over, far, most))
 
@@ -47,7 +47,7 @@ pub returns-then-is_done-clause-moved : goal.returns-then-is_done-clause-moved
 returns-then-is_done-clause-moved g c =
     let inv = c.loop-counted.invariant in
     let on = comes_on c.args.loader.now.context.now c.loop-counted.reader.layout inv.lies c.args.window (g.S.Source.left c.args.source.now) (g.S.Source.left c.loop-counted.source) (g.S.Source.left c.load_round.new.source)
-    c.loop-counted.reader.window c.load_round.new.reader.window c.loop-counted.counted inv.up_to c.load_round.ensures.moved in (on.0, on.1)
+    c.loop-counted.reader.window c.load_round.new.reader.window c.loop-counted.counted inv.up_to c.load_round.ensures.moved.moved in (on.0, on.1)
 
 pub returns-then-is_done-clause-ok : goal.returns-then-is_done-clause-ok
 returns-then-is_done-clause-ok g c =
@@ -64,7 +64,7 @@ returns-then-is_done-clause-ok g c =
     c.round_of.ensures.context ok.1) in
     let up = round_on context l inv.lies c.args.window before (g.S.Source.left c.loop-counted.source) after new.reader.number c.loop-counted.reader.window new.reader.window ok.0 c.loop-counted.counted new.counted inv.up_to round in
     let few : length new.reader.window.kept ≤ lead l new.reader.number =
-    subst (λ (x : Layout). length new.reader.window.kept ≤ lead x new.reader.number) c.load_round.ensures.same (c.is_done.ensures.none c.if-is_done.true) in
+    subst (λ (x : Layout). length new.reader.window.kept ≤ lead x new.reader.number) c.load_round.ensures.moved.layout (c.is_done.ensures.none c.if-is_done.true) in
     let done = all_done context l inv.lies c.args.window before after new.reader.number new.reader.window new.counted up few in (
       done.0,
       subst (λ (d : DataRead). IsAllRead context c.args.layout.data_start c.args.layout.range_size c.args.window before after done.0 d) (sym c.data_read.ensures)
@@ -86,7 +86,7 @@ turn-requires g c =
     c.round_of.ensures.context ok.1) in
     let up = round_on context l inv.lies c.args.window before (g.S.Source.left c.loop-counted.source) after new.reader.number c.loop-counted.reader.window new.reader.window ok.0 c.loop-counted.counted new.counted inv.up_to round in
     let few = few_before context l inv.lies c.args.window before after new.reader.number new.reader.window new.counted up c.requires.room in
-    let same : new.reader.layout.before ≡ l.before = ap (λ (x : Layout). x.before) c.load_round.ensures.same in
+    let same : new.reader.layout.before ≡ l.before = ap (λ (x : Layout). x.before) c.load_round.ensures.moved.layout in
     record { early = omega (arith, few, same) }
 
 pub loop-counted-preserved : goal.loop-counted-preserved
@@ -106,7 +106,7 @@ loop-counted-preserved g c =
     let up = round_on context l inv.lies c.args.window before (g.S.Source.left c.loop-counted.source) after n c.loop-counted.reader.window new.reader.window ok.0 c.loop-counted.counted new.counted inv.up_to round in
     let few = few_before context l inv.lies c.args.window before after n new.reader.window new.counted up c.requires.room in
     let turn = c.turn.ensures in
-    let same : c.turn.new.self.layout ≡ turned l n = turn.layout ∙ ap (λ (x : Layout). turned x n) c.load_round.ensures.same in
+    let same : c.turn.new.self.layout ≡ turned l n = turn.layout ∙ ap (λ (x : Layout). turned x n) c.load_round.ensures.moved.layout in
     let lies = inv.lies in
     record {
       plan = same ∙ ap (λ (x : Layout). turned x n) inv.plan ∙ (λ i. record c.args.layout { before = sym (ap (λ (x : Layout). x.before) same) i });

@@ -18,7 +18,7 @@ loop-reader-preserved g c =
     let there : lead c.loop-reader.reader.layout c.loop-reader.reader.number < length c.loop-reader.reader.window.kept = c.is_done.ensures.some c.if-not-is_done.true in
     let more : List ℕ = inv.cuts.0 ++ fills.moved.0 in
     let cuts =
-    cuts_one_more l c.requires.layout (g.S.Source.left c.args.source.now) (g.S.Source.left c.loop-reader.source) (g.S.Source.left c.fill.new.source) w c.loop-reader.reader c.cut.new.self c.fill.new.self
+    cuts_one_more l c.requires.begins.layout (g.S.Source.left c.args.source.now) (g.S.Source.left c.loop-reader.source) (g.S.Source.left c.fill.new.source) w c.loop-reader.reader c.cut.new.self c.fill.new.self
     inv.layout cut fills made c.args.reader.now.window inv.cuts.0 inv.cuts.1 there c.in_ok-fill.ensures.ok c.fill.ensures.at_end in
     let grown : length (made_of c.keep.new.self) ≡ length made + 1 = ap length c.in_ok-keep.ensures.ok ∙ length-append made (w ∷ []) in
     let below = c.loop-reader-test.true in
@@ -33,7 +33,7 @@ loop-reader-preserved g c =
       few = let f = fills.number in let k = cut.number in omega (arith, below, f, k);
       layout = fills.layout ∙ cut.layout ∙ inv.layout;
       moved =
-          reaches_more l c.requires.layout (g.S.Source.left c.args.source.now) (g.S.Source.left c.loop-reader.source) (g.S.Source.left c.fill.new.source) w c.loop-reader.reader c.cut.new.self c.fill.new.self
+          reaches_more l c.requires.begins.layout (g.S.Source.left c.args.source.now) (g.S.Source.left c.loop-reader.source) (g.S.Source.left c.fill.new.source) w c.loop-reader.reader c.cut.new.self c.fill.new.self
           inv.layout cut fills c.args.reader.now.window inv.moved;
       at_end = c.fill.ensures.at_end;
       held = c.fill.ensures.held ∙ inv.held;
@@ -43,5 +43,12 @@ loop-reader-preserved g c =
 pub returns-in_err-fill-clause-moved : goal.returns-in_err-fill-clause-moved
 returns-in_err-fill-clause-moved g c =
     let inv = c.loop-reader.invariant in
-    reaches_more c.args.reader.now.layout c.requires.layout (g.S.Source.left c.args.source.now) (g.S.Source.left c.loop-reader.source) (g.S.Source.left c.fill.new.source) c.in_ok-window.window
-    c.loop-reader.reader c.cut.new.self c.fill.new.self inv.layout c.in_ok-window.ensures.ok c.fill.ensures.moved c.args.reader.now.window inv.moved
+    let cut = c.in_ok-window.ensures.ok in
+    let fills = c.fill.ensures.moved in
+    record {
+      moved =
+          reaches_more c.args.reader.now.layout c.requires.begins.layout (g.S.Source.left c.args.source.now) (g.S.Source.left c.loop-reader.source) (g.S.Source.left c.fill.new.source) c.in_ok-window.window
+          c.loop-reader.reader c.cut.new.self c.fill.new.self inv.layout cut fills c.args.reader.now.window inv.moved;
+      at_end = c.fill.ensures.at_end;
+      layout = fills.layout ∙ cut.layout ∙ inv.layout;
+    }
