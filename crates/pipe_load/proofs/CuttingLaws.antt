@@ -5,7 +5,7 @@ use Rattle.std.specs.Io.KnownBytes.{IsAtEnd, Consumes}
 use Rattle.std.specs.List.{range_with_len}
 use Rattle.std.proofs.KnownBytes.{Consumes-trans, Consumes-nil}
 use Rattle.std.proofs.Math.Nat.{mul-le-mul_right}
-use Rattle.std.proofs.lemmas.List.{append-nil, take-append-le}
+use Rattle.std.proofs.lemmas.List.{append-nil, drop-append-le, drop-drop, drop_min, take-append-le}
 use Rattle.std.proofs.lemmas.List.FromFn.{map-range_with_len_more}
 use Rattle.window_load.specs.Window.{WindowView, behind_front, IsFilled}
 use Rattle.window_load.proofs.WindowSteps.{none_behind}
@@ -13,21 +13,11 @@ use Rattle.pipe_load.specs.declared.layout.Layout.{Layout}
 use Rattle.pipe_load.specs.declared.window.Window.{Window}
 use Rattle.pipe_load.specs.Layout.{IsLayout, stride, lead, want, window_start, window_of, windows_of, turned}
 use Rattle.pipe_load.specs.Reading.{HasCut, CutsOn}
-use Rattle.pipe_load.proofs.Lists.{drop_more}
 
 -- two functions that agree on numbers from a on agree on the list of them
 pub map_range : {A : Type 0} (f h : ℕ → A) (a n : ℕ) → ((k : ℕ) → k < a + n → f k ≡ h k) → map f (range_with_len a n) ≡ map h (range_with_len a n)
 map_range f h a zero e = refl
 map_range f h a (suc n) e = λ i. e a (omega arith) i ∷ map_range f h (a + 1) n (λ k lt. e k (omega (arith, lt))) i
-
-drop_nil : {A : Type 0} (n : ℕ) → drop {A = A} n [] ≡ []
-drop_nil zero = refl
-drop_nil (suc n) = refl
-
-pub drop-drop : {A : Type 0} (m n : ℕ) (xs : List A) → drop m (drop n xs) ≡ drop (n + m) xs
-drop-drop m zero xs = let e : zero + m ≡ m = omega arith in ap (λ k. drop k xs) (sym e)
-drop-drop {A = A} m (suc n) [] = drop_nil {A = A} m ∙ sym (drop_nil {A = A} (suc n + m))
-drop-drop m (suc n) (x ∷ xs) = let e : suc n + m ≡ suc (n + m) = omega arith in drop-drop m n xs ∙ ap (λ k. drop k (x ∷ xs)) (sym e)
 
 zero_times : (s : ℕ) → 0 * s ≡ 0
 zero_times s = omega arith
@@ -43,7 +33,7 @@ pub slice_more : (xs ys : List ℕ) (a n : ℕ) → a + n ≤ length xs → slic
 slice_more xs ys a n le =
     let inside : a ≤ length xs = omega (arith, le) in
     let enough : a + n - a ≤ length (drop a xs) = omega (arith, le, length-drop a xs) in
-    ap (take (a + n - a)) (drop_more xs ys a inside) ∙ take-append-le (a + n - a) (drop a xs) ys enough
+    ap (take (a + n - a)) (drop-append-le a xs ys inside) ∙ take-append-le (a + n - a) (drop a xs) ys enough
 
 -- where window k ends and the next one's bytes begin
 module _ (s reach : ℕ) (some : 0 < s) where
@@ -73,12 +63,6 @@ module _ (s reach : ℕ) (some : 0 < s) where
 
   pub place_before : (k n : ℕ) → k < n → place_start k + place_len k ≤ n * s + reach
   place_before k n lt = omega (arith, place_ends k, one_more k, below k n lt)
-
--- as many as there are at most
-drop_min : {A : Type 0} (xs : List A) (n : ℕ) → drop (min (length xs) n) xs ≡ drop n xs
-drop_min [] n = drop_nil (min 0 n) ∙ sym (drop_nil n)
-drop_min (x ∷ xs) zero = let none : min (length (x ∷ xs)) zero ≡ zero = omega arith in ap (λ k. drop k (x ∷ xs)) none
-drop_min (x ∷ xs) (suc n) = let more : min (length (x ∷ xs)) (suc n) ≡ suc (min (length xs) n) = omega arith in ap (λ k. drop k (x ∷ xs)) more ∙ drop_min xs n
 
 module _ (l : Layout) (layout : IsLayout l) where
   abbrev s : ℕ
@@ -162,7 +146,7 @@ module _ (l : Layout) (layout : IsLayout l) where
 
       mid_is : mid.kept ≡ drop (window_start l (n + 1)) text
       mid_is =
-          ap (λ (v : WindowView). v.kept) behind ∙ drop_min old.kept (want l n - l.reach - 1) ∙ ap (drop (want l n - l.reach - 1)) h.kept
+          ap (λ (v : WindowView). v.kept) behind ∙ ap (λ m. drop m old.kept) (let same : min (length old.kept) (want l n - l.reach - 1) ≡ min (want l n - l.reach - 1) (length old.kept) = omega arith in same) ∙ drop_min (want l n - l.reach - 1) old.kept ∙ ap (drop (want l n - l.reach - 1)) h.kept
           ∙ drop-drop (want l n - l.reach - 1) (window_start l n) text ∙ ap (λ m. drop m text) (next_starts n)
 
       kept_is : new.kept ≡ drop (window_start l (n + 1)) (head.kept ++ (read ++ bytes))
@@ -172,7 +156,7 @@ module _ (l : Layout) (layout : IsLayout l) where
           joined = elim enough [
             | inl ended ↦ ap (λ b. drop (window_start l (n + 1)) text ++ b) (none_more ended) ∙ append-nil (drop (window_start l (n + 1)) text)
                 ∙ ap (drop (window_start l (n + 1))) (sym (ap (λ b. text ++ b) (none_more ended) ∙ append-nil text))
-            | inr le ↦ sym (drop_more text bytes (window_start l (n + 1)) (omega (arith, le, next_starts n)))
+            | inr le ↦ sym (drop-append-le (window_start l (n + 1)) text bytes (omega (arith, le, next_starts n)))
           ]
 
       window_is : w ≡ window_of l text n

@@ -1,7 +1,8 @@
 -- Windows are put in the order of their numbers.
-use Rattle.std.proofs.Common.{◌≡◌, ℕ, zero, suc, ◌+◌, ◌-◌, ◌<◌, ◌≤◌, min, true, List, [], ◌∷◌, ◌++◌, length, take, get_or, refl, sym, ap, ◌∙◌, subst, arith, length-append, append_assoc, lt_of_not-le}
+use Rattle.std.proofs.Common.{◌≡◌, ℕ, suc, ◌+◌, ◌-◌, ◌<◌, ◌≤◌, min, true, List, [], ◌∷◌, ◌++◌, length, take, get_or, refl, sym, ap, ◌∙◌, subst, arith, length-append, append_assoc, lt_of_not-le}
 use Rattle.std.specs.Prelude.{Option}
 use Rattle.std.specs.Io.KnownBytes.{IsAtEnd}
+use Rattle.std.proofs.lemmas.List.{get_or_append_left, get_or_at}
 use mathlib.Core.Logic.{dite}
 use native.Mathlib.Decide.{dec_le}
 use Rattle.window_load.specs.Window.{WindowView, behind_front, IsFilled, ReachesOn}
@@ -14,21 +15,12 @@ use Rattle.pipe_load.specs.Layout.{IsLayout, lead, want}
 use Rattle.pipe_load.specs.Reading.{Fills, IsCut, CutsOn, passed}
 use Rattle.pipe_load.proofs.CuttingLaws.{cuts_more}
 
-pub at_seam : {A : Type 0} (xs : List A) (y : A) (ys : List A) (d : A) → get_or (xs ++ y ∷ ys) (length xs) d ≡ y
-at_seam [] y ys d = refl
-at_seam (x ∷ xs) y ys d = at_seam xs y ys d
-
-pub in_front : {A : Type 0} (xs ys : List A) (k : ℕ) (d : A) → k < length xs → get_or (xs ++ ys) k d ≡ get_or xs k d
-in_front [] ys k d lt = absurd (let never : ⊥ = omega (arith, lt) in never)
-in_front (x ∷ xs) ys zero d lt = refl
-in_front (x ∷ xs) ys (suc k) d lt = let under : k < length xs = omega (arith, lt) in in_front xs ys k d under
-
 -- the window that waits first has the number of windows that were put
 pub next_number : (put waiting : List Window) (w : Window) (rest : List Window) → waiting ≡ w ∷ rest → AreNumbered (put ++ waiting) → w.number ≡ length put
 next_number put waiting w rest is numbered =
     let numbers : AreNumbered (put ++ w ∷ rest) = subst (λ ws. AreNumbered (put ++ ws)) is numbered in
     let within : length put < length (put ++ w ∷ rest) = omega (arith, length-append put (w ∷ rest)) in
-    ap (λ (x : Window). x.number) (sym (at_seam put w rest w)) ∙ numbers (length put) w within
+    ap (λ (x : Window). x.number) (sym (get_or_at put w rest w (length put) refl)) ∙ numbers (length put) w within
 
 -- one more window with the next number
 pub one_more_number : (ws : List Window) (w : Window) → AreNumbered ws → w.number ≡ length ws → AreNumbered (ws ++ w ∷ [])
@@ -36,9 +28,9 @@ one_more_number ws w numbered next k d lt = below_more ws w d k lt numbered next
   where
     below_more : (ws : List Window) (w d : Window) (k : ℕ) → k < length (ws ++ w ∷ []) → AreNumbered ws → w.number ≡ length ws → (get_or (ws ++ w ∷ []) k d).number ≡ k
     below_more ws w d k lt numbered next = dite (dec_le (suc k) (length ws))
-        (λ here. ap (λ (x : Window). x.number) (in_front ws (w ∷ []) k d (omega (arith, here))) ∙ numbered k d (omega (arith, here)))
+        (λ here. ap (λ (x : Window). x.number) (get_or_append_left ws (w ∷ []) d k (omega (arith, here))) ∙ numbered k d (omega (arith, here)))
         (λ there. let last : k ≡ length ws = omega (arith, lt, length-append ws (w ∷ []), lt_of_not-le there) in
-        ap (λ n. (get_or (ws ++ w ∷ []) n d).number) last ∙ ap (λ (x : Window). x.number) (at_seam ws w [] d) ∙ next ∙ sym last)
+        ap (λ n. (get_or (ws ++ w ∷ []) n d).number) last ∙ ap (λ (x : Window). x.number) (get_or_at ws w [] d (length ws) refl) ∙ next ∙ sym last)
 
 -- the windows with one more at the end of those that wait
 pub kept_numbered : (put waiting more : List Window) (w : Window) → more ≡ waiting ++ w ∷ [] → AreNumbered (put ++ waiting) → w.number ≡ length (put ++ waiting) → AreNumbered (put ++ more)

@@ -3,7 +3,7 @@ use Rattle.std.proofs.Common.{◌≡◌, ◌≢◌, ℕ, ◌+◌, ◌-◌, ◌<�
 use Rattle.std.specs.Prelude.{Option, Some, None, is_some}
 use Rattle.std.proofs.lemmas.Bool.{cases_eq}
 use Rattle.std.proofs.lemmas.List.{set-get_or}
-use Rattle.std.proofs.lemmas.List.Elements.{All-append, All-cons, All-nil}
+use Rattle.std.proofs.lemmas.List.Elements.{All-append, All-cons, All-nil, All-push}
 use Rattle.pipe_load.specs.declared.pass_view.PassView.{PassView}
 use Rattle.pipe_load.specs.declared.scanner.Kept.{Kept}
 use Rattle.pipe_load.specs.declared.slots.Slots.{Slots}
@@ -13,7 +13,6 @@ use Rattle.pipe_load.specs.declared.window.Window.{Window}
 use Rattle.pipe_load.specs.Feeding.{AreNumbered}
 use Rattle.pipe_load.specs.PassViews.{after_take}
 use Rattle.pipe_load.specs.Slots.{slot_of, Holds, HoldsAll, Stays, ComesInHand, Pops, IsAllHeld}
-use Rattle.pipe_load.proofs.Lists.{just}
 use Rattle.pipe_load.proofs.LoadLaws.{number_behind}
 use Rattle.pipe_load.proofs.ScanningLaws.{all_more}
 
@@ -23,7 +22,7 @@ pub done_last : {A : Type 0} (P : A → Type 0) (all left rest done : List A) (x
 done_last P all left rest done x is popped p h = (x ∷ done, is ∙ ap (λ xs. xs ++ done) popped ∙ append_assoc rest (x ∷ []) done, All-cons P x done p h)
 
 pub done_first : {A : Type 0} (P : A → Type 0) (all left rest done : List A) (x : A) → all ≡ done ++ left → left ≡ x ∷ rest → P x → All P done → (now : List A) × (all ≡ now ++ rest) × All P now
-done_first P all left rest done x is popped p h = (done ++ x ∷ [], is ∙ ap (λ xs. done ++ xs) popped ∙ sym (append_assoc done (x ∷ []) rest), All-append P done (x ∷ []) h (just P x p))
+done_first P all left rest done x is popped p h = (done ++ x ∷ [], is ∙ ap (λ xs. done ++ xs) popped ∙ sym (append_assoc done (x ∷ []) rest), All-push P done x h p)
 
 pub none_left : {A : Type 0} (P : A → Type 0) (all left done : List A) → all ≡ left ++ done → length left ≡ 0 → All P done → All P all
 none_left P all [] done is none h = subst (All P) (sym is) h

@@ -1,7 +1,7 @@
 -- Each step of the queue keeps its rule.
 use Rattle.std.proofs.Common.{◌≡◌, ℕ, zero, suc, ◌+◌, ◌-◌, ◌<◌, eqb, cond, List, [], ◌∷◌, ◌++◌, length, map, drop, set, sym, refl, ap, ◌∙◌, subst, ⊎_elim, arith, append_assoc, length-append}
-use Rattle.std.proofs.lemmas.List.{map-append, append-nil}
-use Rattle.std.proofs.lemmas.List.Elements.{All-append, All-nil}
+use Rattle.std.proofs.lemmas.List.{map-append, append-nil, drop-append-le}
+use Rattle.std.proofs.lemmas.List.Elements.{All-append, All-nil, All-push, All-weaker}
 use Rattle.std.proofs.lemmas.List.Sums.{sum_by-cons, sum_by-append}
 use mathlib.Core.Option.{some}
 use lib.ListN.{get_elem?}
@@ -14,7 +14,7 @@ use Rattle.pipe_load.specs.declared.window.Item.{Item}
 use Rattle.pipe_load.specs.declared.window.Item.TheVariants as item
 use Rattle.pipe_load.specs.PassViews.{stage_view, spent_view, joined_view, with_stages, after_put, after_take, MayTake, IsNext, IsOneOf}
 use Rattle.pipe_load.specs.Rule.{times, end_marks, held, one_if_stage, Fits, Ruled, IsRuled}
-use Rattle.pipe_load.proofs.Lists.{at_more, at_one_more, drop_first, drop_more, marks_more, times-append, once_more, sum_set, all_up, just}
+use Rattle.pipe_load.proofs.Lists.{at_more, at_one_more, drop_first, marks_more, times-append, once_more, sum_set}
 
 -- what all passes know is so
 abbrev pub AllFit : List Window → ℕ → ℕ → ℕ → List PassView → Type 0
@@ -62,7 +62,7 @@ window_put n id v x may number none items views _ (put, taken, marks_left, marks
           holds =
               ap (λ l. l ++ item.Window x ∷ []) (r.holds ∙ ap (held put taken) no_marks ∙ append-nil (map item.Window (drop taken put)))
               ∙ sym (map-append item.Window (drop taken put) (x ∷ []))
-              ∙ ap (map item.Window) (sym (drop_more put (x ∷ []) taken r.few))
+              ∙ ap (map item.Window) (sym (drop-append-le taken put (x ∷ []) r.few))
               ∙ sym (append-nil (map item.Window (drop taken more)))
               ∙ ap (held more taken) (sym no_marks);
           once = λ k. omega (arith, r.once k, sum_set (λ u. times k u.taken) views id v w at);
@@ -74,13 +74,13 @@ window_put n id v x may number none items views _ (put, taken, marks_left, marks
                 puts = λ _. (is.0, ap (λ l. l ++ x ∷ []) put_is, omega (arith, puts_is, longer), is.3);
                 other = λ p. absurd (p may);
                 joined = mine.joined;
-                taken = all_up (IsOneOf put) (IsOneOf more) v.taken up mine.taken;
+                taken = All-weaker (IsOneOf put) (IsOneOf more) up v.taken mine.taken;
               }
               (λ j u other e. let f : Fits put marks stages caller j u = r.each j u e in record {
                 puts = λ p. absurd (other ((f.puts p).0 ∙ sym is.0));
                 other = f.other;
                 joined = f.joined;
-                taken = all_up (IsOneOf put) (IsOneOf more) u.taken up f.taken;
+                taken = All-weaker (IsOneOf put) (IsOneOf more) up u.taken f.taken;
               });
         },
       ),
@@ -153,7 +153,7 @@ window_taken id v x rest items views put taken marks_left marks stages caller ma
       counted = omega (arith, r.counted, sum_set (λ u. u.marks_taken) views id v w at);
       apart = omega (arith, r.apart, sum_set (λ u. one_if_stage u.role) views id v w at);
       each = fits_set (Fits put marks stages caller) views id w
-          record { puts = mine.puts; other = mine.other; joined = λ p. absurd (may.apart p); taken = All-append (IsOneOf put) v.taken (x ∷ []) mine.taken (just (IsOneOf put) x it_is) }
+          record { puts = mine.puts; other = mine.other; joined = λ p. absurd (may.apart p); taken = All-push (IsOneOf put) v.taken x mine.taken it_is }
           (λ j u other e. r.each j u e);
     }
 

@@ -1,5 +1,5 @@
 -- Lists of windows and of what passes know.
-use Rattle.std.proofs.Common.{◌≡◌, ℕ, zero, suc, ◌+◌, ◌<◌, ◌≤◌, ◌⊎◌, inl, inr, eqb, cond, List, [], ◌∷◌, ◌++◌, length, drop, get_or, set, sum_by, All, sym, refl, ap, ⊎_elim, arith}
+use Rattle.std.proofs.Common.{◌≡◌, ℕ, zero, suc, ◌+◌, ◌<◌, ◌≤◌, ◌⊎◌, inl, inr, eqb, cond, List, [], ◌∷◌, ◌++◌, length, drop, get_or, set, sum_by, sym, refl, ap, ⊎_elim, arith}
 use Rattle.std.proofs.lemmas.List.Sums.{sum_by-cons, sum_by-append}
 use Rattle.std.proofs.lemmas.Bool.{cases_eq}
 use Rattle.std.proofs.lemmas.Bool.Decides.{nat_tests}
@@ -29,12 +29,6 @@ drop_first [] zero x rest e = absurd (cc)
 drop_first [] (suc n) x rest e = absurd (cc)
 drop_first (y ∷ xs) zero x rest e = (ap some (cc), (cc), omega arith)
 drop_first (y ∷ xs) (suc n) x rest e = let h = drop_first xs n x rest e in let below = h.2 in (h.0, h.1, omega (arith, below))
-
--- one more at the end of what is left behind the first n
-pub drop_more : {A : Type 0} (xs ys : List A) (n : ℕ) → n ≤ length xs → drop n (xs ++ ys) ≡ drop n xs ++ ys
-drop_more xs ys zero le = refl
-drop_more [] ys (suc n) le = absurd (let no : ⊥ = omega (arith, le) in no)
-drop_more (x ∷ xs) ys (suc n) le = let below : n ≤ length xs = omega (arith, le) in drop_more xs ys n below
 
 -- an end mark before some is one behind them
 pub marks_more : (n : ℕ) → end_marks n ++ item.EndMark ∷ [] ≡ end_marks (suc n)
@@ -74,11 +68,3 @@ stands k (w ∷ ws) there = elim (cases_eq w.number k) [
       let rest : 0 < times k ws = grind (arith, nat_tests, sum_by-cons (λ (u : Window). cond {A = ℕ} (eqb u.number k) 1 0) w ws) in
       let h = stands k ws rest in let under = h.1 in (suc h.0, omega (arith, under), h.2)
 ]
-
--- facts of all entries
-pub all_up : {A : Type 0} (P Q : A → Type 0) (xs : List A) → ((x : A) → P x → Q x) → All P xs → All Q xs
-all_up P Q xs up h k d lt = up _ (h k d lt)
-
-pub just : {A : Type 0} (P : A → Type 0) (x : A) → P x → All P (x ∷ [])
-just P x h zero d lt = h
-just P x h (suc k) d lt = absurd (omega arith)

@@ -1,8 +1,9 @@
 -- All windows are joined, one after another.
-use Rattle.std.proofs.Common.{◌≡◌, ℕ, zero, suc, ◌+◌, ◌-◌, ◌*◌, ◌/◌, ◌<◌, ◌≤◌, ◌^◌, min, List, [], ◌∷◌, ◌++◌, length, map, drop, get_or, All, refl, sym, ap, ◌∙◌, subst, arith, length-append, length-take, length-drop}
+use Rattle.std.proofs.Common.{◌≡◌, ℕ, zero, suc, ◌+◌, ◌-◌, ◌*◌, ◌/◌, ◌<◌, ◌≤◌, ◌^◌, min, List, ◌++◌, length, map, drop, get_or, All, sym, ap, ◌∙◌, subst, arith, length-append, length-take, length-drop}
 use Rattle.std.specs.List.{range_with_len}
 use Rattle.std.proofs.Math.Nat.{mul-le-mul_left, mul-le-mul_right, le_of_mul-le-mul_right}
-use Rattle.std.proofs.lemmas.List.FromFn.{length-map-range_with_len}
+use Rattle.std.proofs.lemmas.List.{get_or-append-add, get_or_default}
+use Rattle.std.proofs.lemmas.List.FromFn.{get_or-map-range_with_len, length-map-range_with_len}
 use mathlib.Core.Option.{some, some-injective, some-ne-none}
 use lib.ListN.{get_elem?}
 use Rattle.crossbeam_queue.proofs.Lists.{at_index}
@@ -136,28 +137,18 @@ module _ (context : Context) (l : Layout) (layout : IsLayout l) (text : List ℕ
         scanned = ap (λ n. length text + n) h.joined.rescanned;
       }
 
--- an entry behind the first ones
-pub at_behind : {A : Type 0} (xs ys : List A) (k : ℕ) (d : A) → get_or (xs ++ ys) (length xs + k) d ≡ get_or ys k d
-at_behind [] ys k d = let e : zero + k ≡ k = omega arith in ap (λ n. get_or ys n d) e
-at_behind (x ∷ xs) ys k d = let e : suc (length xs) + k ≡ suc (length xs + k) = omega arith in ap (λ n. get_or (x ∷ (xs ++ ys)) n d) e ∙ at_behind xs ys k d
-
 -- windows that wait have the numbers behind those that were put, and are among those that were made
 pub number_behind : (put waiting : List Window) → AreNumbered (put ++ waiting) → (k : ℕ) (d : Window) → k < length waiting → (get_or waiting k d).number ≡ length put + k
 number_behind put waiting h k d lt =
-    ap (λ (w : Window). w.number) (sym (at_behind put waiting k d)) ∙ h (length put + k) d (let e : length put + k < length (put ++ waiting) = omega (arith, lt, length-append put waiting) in e)
+    ap (λ (w : Window). w.number) (sym (get_or-append-add put waiting k d)) ∙ h (length put + k) d (let e : length put + k < length (put ++ waiting) = omega (arith, lt, length-append put waiting) in e)
 
 pub waiting_is_made : (put waiting : List Window) → AreNumbered (put ++ waiting) → All (IsOneOf (put ++ waiting)) waiting
 waiting_is_made put waiting h k d lt =
     let w : Window = get_or waiting k d in
     let number : w.number ≡ length put + k = number_behind put waiting h k d lt in
     let within : length put + k < length (put ++ waiting) = omega (arith, lt, length-append put waiting) in
-    let here : w ≡ get_or (put ++ waiting) (length put + k) w = sym (at_behind put waiting k w ∙ same_default waiting k d lt) in
+    let here : w ≡ get_or (put ++ waiting) (length put + k) w = sym (get_or-append-add put waiting k w ∙ get_or_default waiting k (get_or waiting k d) d lt) in
     ap (get_elem? (put ++ waiting)) number ∙ at_index (put ++ waiting) (length put + k) w within here
-  where
-    same_default : (xs : List Window) (k : ℕ) (d : Window) → k < length xs → get_or xs k (get_or xs k d) ≡ get_or xs k d
-    same_default [] k d lt = absurd (let never : ⊥ = omega (arith, lt) in never)
-    same_default (x ∷ xs) zero d lt = refl
-    same_default (x ∷ xs) (suc k) d lt = same_default xs k d (let under : k < length xs = omega (arith, lt) in under)
 
 -- the layout of a load within its limits
 pub layout_lies : (data_start size line : ℕ) → 0 < size → size ≤ RANGE_SIZE.most → line ≤ MAX_LINE_SIZE.most → data_start ≤ 2 ^ 32 → IsLayout (layout_of data_start size line)
@@ -179,9 +170,5 @@ layout_lies data_start size line positive small rows start =
 -- windows of the data are numbered
 pub numbered_windows : (l : Layout) (text : List ℕ) (n : ℕ) → AreNumbered (windows_of l text n)
 numbered_windows l text n k d lt =
-    ap (λ (w : Window). w.number) (get_or-map-range (window_of l text) 0 n k d (let e : k < n = omega (arith, lt, length-map-range_with_len (window_of l text) 0 n) in e)) ∙ (let s : 0 + k ≡ k = omega arith in s)
-  where
-    get_or-map-range : {A : Type 0} (f : ℕ → A) (a n k : ℕ) (d : A) → k < n → get_or (map f (range_with_len a n)) k d ≡ f (a + k)
-    get_or-map-range f a zero k d lt = absurd (let never : ⊥ = omega (arith, lt) in never)
-    get_or-map-range f a (suc n) zero d lt = ap f (let s : a ≡ a + zero = omega arith in s)
-    get_or-map-range f a (suc n) (suc k) d lt = get_or-map-range f (a + 1) n k d (let e : k < n = omega (arith, lt) in e) ∙ ap f (let s : a + 1 + k ≡ a + suc k = omega arith in s)
+    let under : k < n = omega (arith, lt, length-map-range_with_len (window_of l text) 0 n) in
+    ap (λ (w : Window). w.number) (get_or-map-range_with_len (window_of l text) 0 n k k d under (let same : 0 + k ≡ k = omega arith in same))

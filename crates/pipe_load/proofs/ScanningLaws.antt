@@ -1,7 +1,7 @@
 -- What a stage keeps, window by window and range by range.
 use Rattle.std.proofs.Common.{◌≡◌, ℕ, ◌+◌, List, [], ◌∷◌, ◌++◌, length, map, All, sym, ap, ◌∙◌, subst, arith}
 use Rattle.std.proofs.lemmas.List.{map-append}
-use Rattle.std.proofs.lemmas.List.Elements.{All-append, All-nil}
+use Rattle.std.proofs.lemmas.List.Elements.{All-nil, All-push, All-same}
 use Rattle.std.proofs.lemmas.List.FromFn.{map-range_with_len_more, length-map-range_with_len}
 use Rattle.quote_automaton.specs.declared.state.State.{State}
 use Rattle.range_scan.specs.declared.context.Context.{Context}
@@ -18,7 +18,6 @@ use Rattle.pipe_load.specs.declared.window.Window.{Window}
 use Rattle.pipe_load.specs.Layout.{base_of, stretch_of, stretch_len}
 use Rattle.pipe_load.specs.PassViews.{stage_view, with_stages}
 use Rattle.pipe_load.specs.Scanning.{opening_of, guessed_part, guessed_parts, HasParts, IsScanned, HasScanned}
-use Rattle.pipe_load.proofs.Lists.{just}
 
 module _ (context : Context) (l : Layout) (w : Window) where
   pub one_more_part : (n : ℕ) (parts new : List Scanned) (part : Scanned) (bytes : List ℕ) (base : ℕ) (s : Stretch) (span : Span) (opened : State) →
@@ -43,7 +42,7 @@ scanned_parts context l kept h =
 
 -- one more entry of which a fact is known
 pub all_more : {A : Type 0} (P : A → Type 0) (xs ys : List A) (x : A) → ys ≡ xs ++ x ∷ [] → All P xs → P x → All P ys
-all_more P xs ys x e h p = subst (All P) (sym e) (All-append P xs (x ∷ []) h (just P x p))
+all_more P xs ys x e h p = All-same P ys (xs ++ x ∷ []) e (All-push P xs x h p)
 
 -- a stage that took nothing
 pub fresh_stage : (context : Context) (l : Layout) (stage : Stage) → stage.kept.items ≡ [] → view stage.pass ≡ stage_view → HasScanned context l stage

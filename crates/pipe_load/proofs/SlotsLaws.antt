@@ -1,5 +1,7 @@
 -- Windows come in hand one after another.
-use Rattle.std.proofs.Common.{◌≡◌, ℕ, zero, suc, ◌<◌, List, [], ◌∷◌, ◌++◌, length, map, All, sym, ap, ◌∙◌, subst, arith, length-append}
+use Rattle.std.proofs.Common.{◌≡◌, ℕ, zero, suc, ◌<◌, List, [], ◌∷◌, ◌++◌, length, map, All, refl, sym, ap, ◌∙◌, subst, arith}
+use Rattle.std.specs.Prelude.{Some}
+use Rattle.std.proofs.lemmas.List.Elements.{All-head, All-pop, All-tail}
 use mathlib.Core.Option.{some, some-ne-none}
 use lib.ListN.{get_elem?}
 use Rattle.range_scan.specs.declared.context.Context.{Context}
@@ -8,30 +10,23 @@ use Rattle.pipe_load.specs.declared.scanner.Kept.{Kept}
 use Rattle.pipe_load.specs.declared.window.Window.{Window}
 use Rattle.pipe_load.specs.PassViews.{IsOneOf}
 use Rattle.pipe_load.specs.Scanning.{guessed_parts, HasParts}
-use Rattle.pipe_load.proofs.FeedingLaws.{at_seam, in_front}
 use Rattle.pipe_load.proofs.Lists.{at_more}
 
--- facts of all entries, and of the last or the first one
+-- facts of all entries but the last one, of the last one, and of those behind some
 pub all_but_last : {A : Type 0} (P : A → Type 0) (xs : List A) (x : A) → All P (xs ++ x ∷ []) → All P xs
-all_but_last P xs x h k d lt = subst P (in_front xs (x ∷ []) k d lt) (h k d (let more : k < length (xs ++ x ∷ []) = omega (arith, lt, length-append xs (x ∷ [])) in more))
+all_but_last P xs x h = (All-pop P (xs ++ x ∷ []) xs (Some x) refl h).0
 
 pub of_last : {A : Type 0} (P : A → Type 0) (xs : List A) (x : A) → All P (xs ++ x ∷ []) → P x
-of_last P xs x h = subst P (at_seam xs x [] x) (h (length xs) x (let more : length xs < length (xs ++ x ∷ []) = omega (arith, length-append xs (x ∷ [])) in more))
-
-pub of_first : {A : Type 0} (P : A → Type 0) (x : A) (xs : List A) → All P (x ∷ xs) → P x
-of_first P x xs h = h zero x (let more : zero < length (x ∷ xs) = omega arith in more)
-
-pub all_but_first : {A : Type 0} (P : A → Type 0) (x : A) (xs : List A) → All P (x ∷ xs) → All P xs
-all_but_first P x xs h k d lt = h (suc k) d (let more : suc k < length (x ∷ xs) = omega (arith, lt) in more)
+of_last P xs x h = (All-pop P (xs ++ x ∷ []) xs (Some x) refl h).1
 
 pub all_behind : {A : Type 0} (P : A → Type 0) (xs ys : List A) → All P (xs ++ ys) → All P ys
 all_behind P [] ys h = h
-all_behind P (x ∷ xs) ys h = all_behind P xs ys (all_but_first P x (xs ++ ys) h)
+all_behind P (x ∷ xs) ys h = all_behind P xs ys (All-tail P x (xs ++ ys) h)
 
 pub all_of_map : {A B : Type 0} (P : B → Type 0) (f : A → B) (xs : List A) → All P (map f xs) → All (λ x. P (f x)) xs
 all_of_map P f [] h k d lt = absurd (let never : ⊥ = omega (arith, lt) in never)
-all_of_map P f (x ∷ xs) h zero d lt = of_first P (f x) (map f xs) h
-all_of_map P f (x ∷ xs) h (suc k) d lt = all_of_map P f xs (all_but_first P (f x) (map f xs) h) k d (let under : k < length xs = omega (arith, lt) in under)
+all_of_map P f (x ∷ xs) h zero d lt = All-head P (f x) (map f xs) h
+all_of_map P f (x ∷ xs) h (suc k) d lt = all_of_map P f xs (All-tail P (f x) (map f xs) h) k d (let under : k < length xs = omega (arith, lt) in under)
 
 -- a place of an entry is within a list
 pub at_within : {A : Type 0} (xs : List A) (k : ℕ) (x : A) → get_elem? xs k ≡ some x → k < length xs

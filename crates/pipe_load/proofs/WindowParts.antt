@@ -1,14 +1,13 @@
 -- A range's part in its window is its part in the data.
-use Rattle.std.proofs.Common.{◌≡◌, ℕ, zero, suc, ◌+◌, ◌-◌, ◌<◌, ◌≤◌, ◌⊎◌, inl, inr, min, List, [], ◌∷◌, ◌++◌, length, take, drop, refl, sym, ap, ◌∙◌, ⊎_elim, arith, append_assoc, length-take, lt_of_not-le}
+use Rattle.std.proofs.Common.{◌≡◌, ℕ, ◌+◌, ◌-◌, ◌<◌, ◌≤◌, ◌⊎◌, inl, inr, min, List, [], ◌++◌, length, take, drop, sym, ap, ◌∙◌, ⊎_elim, arith, append_assoc, length-take, lt_of_not-le}
 use Rattle.std.specs.Prelude.{slice_range}
-use Rattle.std.proofs.lemmas.List.{take-append-drop}
+use Rattle.std.proofs.lemmas.List.{drop-drop, drop_all, take-append-drop}
 use mathlib.Core.Logic.{dite}
 use native.Mathlib.Decide.{dec_le}
 use Rattle.byte_classes.specs.Dialect.{Marks}
 use Rattle.quote_automaton.specs.declared.state.State.{State}
 use Rattle.range_scan.specs.Part.{Judge, part_of, LooksAtMost}
 use Rattle.range_scan.proofs.WindowLaws.{window_suffices}
-use Rattle.pipe_load.proofs.CuttingLaws.{drop-drop}
 
 -- where range n of window k lies: p is the place of the window's first range in the data, a that of range n in the window's ranges
 module _ (stride size reach text_length start lead p a bytes : ℕ)
@@ -35,12 +34,6 @@ module _ (stride size reach text_length start lead p a bytes : ℕ)
   pub reaches : (text_length ≤ start + (lead + stride + reach)) ⊎ (to + (reach - 1) < bytes)
   reaches = dite (dec_le text_length (start + (lead + stride + reach))) (λ e. inl (omega (arith, e))) (λ e. inr (omega (arith, lt_of_not-le e)))
 
-no_more : {A : Type 0} (n : ℕ) (xs : List A) → length xs ≤ n → drop n xs ≡ []
-no_more zero [] le = refl
-no_more (suc n) [] le = refl
-no_more zero (x ∷ xs) le = absurd (let never : ⊥ = omega (arith, le) in never)
-no_more (suc n) (x ∷ xs) le = let under : length xs ≤ n = omega (arith, le) in no_more n xs under
-
 -- a list is what stands before a part of it, the part, and the rest
 in_three : (xs : List ℕ) (a m : ℕ) → take a xs ++ slice_range xs a (a + m) ++ drop (a + m) xs ≡ xs
 in_three xs a m =
@@ -60,7 +53,7 @@ in_text judge most looks d text base start m from to s inside from_to within led
     let tail : List ℕ = drop (start + m) text in
     let len : length lead ≡ start = omega (arith, length-take start text, inside) in
     let no_lead : (lead ≡ []) ⊎ (0 < from) = ⊎_elim (λ (e : start ≡ 0). inl (ap (λ n. take n text) e)) (λ (h : 0 < from). inr h) led in
-    let no_tail : (tail ≡ []) ⊎ (to + most < length window) = ⊎_elim (λ (e : length text ≤ start + m). inl (no_more (start + m) text e)) (λ (h : to + most < length window). inr h) reach in
+    let no_tail : (tail ≡ []) ⊎ (to + most < length window) = ⊎_elim (λ (e : length text ≤ start + m). inl (drop_all (start + m) text e)) (λ (h : to + most < length window). inr h) reach in
     ap (λ n. part_of judge d window (base + n) from to s) (sym len)
     ∙ sym (window_suffices judge most looks d lead window tail base from to s from_to within no_lead no_tail)
     ∙ (λ i. part_of judge d (in_three text start m i) base (len i + from) (len i + to) s)

@@ -4,6 +4,7 @@ use Rattle.std.specs.Prelude.{None, slice_range}
 use Rattle.std.specs.List.{range_with_len, last_or}
 use Rattle.std.proofs.Math.Nat.{mul-le-mul_right}
 use Rattle.std.proofs.Math.Seq.{take-add}
+use Rattle.std.proofs.lemmas.List.{drop-drop, drop-take, take-take}
 use mathlib.Core.Logic.{dite}
 use native.Mathlib.Decide.{dec_le}
 use Rattle.byte_classes.proofs.LineEndLaws.{last_or-append, last_or-some}
@@ -26,7 +27,7 @@ use Rattle.pipe_load.specs.declared.layout.Layout.{Layout}
 use Rattle.pipe_load.specs.declared.window.Window.{Window}
 use Rattle.pipe_load.specs.Joining.{AddsRange, AddsRanges, IsJoinedTo}
 use Rattle.pipe_load.specs.Layout.{IsLayout, stride, want, window_start, window_of, base_of, stretch_of, stretch_len}
-use Rattle.pipe_load.proofs.CuttingLaws.{drop-drop, some_stride}
+use Rattle.pipe_load.proofs.CuttingLaws.{some_stride}
 use Rattle.pipe_load.proofs.JoiningLaws.{next_range}
 use Rattle.pipe_load.proofs.WindowParts.{begins, ends, ordered, within, reaches, in_text}
 
@@ -40,22 +41,6 @@ next_fits n r z lt = dite (dec_le r n)
     (λ le. let far : r * z ≤ n * z = mul-le-mul_right z le in absurd (let never : ⊥ = omega (arith, far, lt) in never))
     (λ not_le. let more : n + 1 ≤ r = omega (arith, lt_of_not-le not_le) in let e : (n + 1) * z ≡ n * z + z = omega arith in omega (arith, mul-le-mul_right z more, e))
 
--- the first of the first ones, and what is left of the first ones
-take-within : {A : Type 0} (n m : ℕ) (xs : List A) → n ≤ m → take n (take m xs) ≡ take n xs
-take-within zero m xs le = refl
-take-within (suc n) (suc m) [] le = refl
-take-within (suc n) (suc m) (x ∷ xs) le = let under : n ≤ m = omega (arith, le) in ap (λ r. x ∷ r) (take-within n m xs under)
-take-within (suc n) zero xs le = absurd (let never : ⊥ = omega (arith, le) in never)
-
-drop-within : {A : Type 0} (n m : ℕ) (xs : List A) → drop n (take (n + m) xs) ≡ take m (drop n xs)
-drop-within zero m xs = let e : zero + m ≡ m = omega arith in ap (λ k. take k xs) e
-drop-within {A = A} (suc n) m [] = let e : suc n + m ≡ suc (n + m) = omega arith in ap (λ k. drop (suc n) (take {A = A} k [])) e ∙ sym (take_nil m)
-  where
-    take_nil : (m : ℕ) → take {A = A} m [] ≡ []
-    take_nil zero = refl
-    take_nil (suc m) = refl
-drop-within (suc n) m (x ∷ xs) = let e : suc n + m ≡ suc (n + m) = omega arith in ap (λ k. drop (suc n) (take k (x ∷ xs))) e ∙ drop-within n m xs
-
 -- a part of a part of a list
 slice_within : (xs : List ℕ) (a m f t : ℕ) → f ≤ t → t ≤ m → slice_range (slice_range xs a (a + m)) f t ≡ slice_range xs (a + f) (a + t)
 slice_within xs a m f t f_t t_m =
@@ -63,15 +48,15 @@ slice_within xs a m f t f_t t_m =
     let fewer : t - f ≤ m - f = omega (arith, t_m) in
     let width : t - f ≡ a + t - (a + f) = omega arith in
     ap (λ n. take (t - f) (drop f (take n (drop a xs)))) count
-    ∙ ap (take (t - f)) (drop-within f (m - f) (drop a xs))
-    ∙ take-within (t - f) (m - f) (drop f (drop a xs)) fewer
+    ∙ ap (take (t - f)) (drop-take f (m - f) (drop a xs))
+    ∙ take-take (t - f) (m - f) (drop f (drop a xs)) fewer
     ∙ (λ i. take (width i) (drop-drop f a xs i))
 
 -- the byte before a place of a part of a list
 before_within : (xs : List ℕ) (a m f : ℕ) → f ≤ m → f ≤ length xs - a → (a ≡ 0) ⊎ (0 < f) → byte_before (slice_range xs a (a + m)) f ≡ byte_before xs (a + f)
 before_within xs a m f f_m inside led =
     let count : a + m - a ≡ m = omega arith in
-    let front : take f (slice_range xs a (a + m)) ≡ take f (drop a xs) = ap (λ n. take f (take n (drop a xs))) count ∙ take-within f m (drop a xs) f_m in
+    let front : take f (slice_range xs a (a + m)) ≡ take f (drop a xs) = ap (λ n. take f (take n (drop a xs))) count ∙ take-take f m (drop a xs) f_m in
     ap (last_or None) front ∙ elim led as (λ _. last_or None (take f (drop a xs)) ≡ byte_before xs (a + f)) [
       | inl e ↦ (λ i. last_or None (take f (drop (e i) xs))) ∙ ap (λ n. last_or None (take n xs)) (let same : f ≡ a + f = omega (arith, e) in same)
       | inr some ↦ (let long : 0 < length (take f (drop a xs)) = omega (arith, some, inside, length-take f (drop a xs), length-drop a xs) in
