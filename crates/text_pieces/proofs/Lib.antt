@@ -1,4 +1,5 @@
-mod Fronts
+mod BlockSteps
+pub mod Fronts
 pub mod Lanes
 pub mod Ranges
 pub mod RowTexts

@@ -1,13 +1,12 @@
 -- Shares of rows, and their texts in order.
-use Rattle.std.proofs.Common.{◌≡◌, ℕ, suc, ◌+◌, ◌-◌, ◌/◌, ◌<◌, ◌≤◌, true, false, Bool, not, List, [], ◌∷◌, ◌++◌, length, take, drop, get_or, refl, sym, ◌∙◌, ap, subst, arith}
+use Rattle.std.proofs.Common.{◌≡◌, ℕ, suc, ◌/◌, ◌<◌, ◌≤◌, true, false, Bool, not, List, [], ◌∷◌, ◌++◌, length, take, drop, get_or, refl, sym, ◌∙◌, ap, subst, arith}
 use Rattle.std.specs.Prelude.{All, flat_map, slice_range}
-use Rattle.std.proofs.Math.Seq.{take-add, take-append_seam}
+use Rattle.std.proofs.Math.Seq.{take-append_seam}
 use Rattle.std.proofs.lemmas.Grind.{flat_map-append}
-use Rattle.std.proofs.lemmas.List.{drop-drop}
 use Rattle.std.proofs.lemmas.List.Elements.{All-append, All-cons, All-nil}
 use Rattle.text_pieces.specs.declared.shares.Share.{Share}
 use Rattle.text_pieces.specs.Shares.{AreMade, AreShares, MakesShare}
-use Rattle.text_pieces.proofs.Ranges.{range-all}
+use Rattle.text_pieces.proofs.Ranges.{range-all, range-none, range-split}
 
 -- ---- cutting
 
@@ -36,23 +35,11 @@ abbrev pub share_text : Share → List ℕ
 share_text share = share.text.items
 
 module _ {X : Type 0} (line : X → List ℕ) (rows : List X) where
-  range-split : (from mid to : ℕ) → from ≤ mid → mid ≤ to → slice_range rows from mid ++ slice_range rows mid to ≡ slice_range rows from to
-  range-split from mid to low high =
-      let count : to - from ≡ (mid - from) + (to - mid) = omega arith in
-      let place : from + (mid - from) ≡ mid = omega arith in
-      sym
-      (ap (λ n. take n (drop from rows)) count
-      ∙ take-add (mid - from) (to - mid) (drop from rows)
-      ∙ ap (λ rest. slice_range rows from mid ++ take (to - mid) rest) (drop-drop (mid - from) from rows ∙ ap (λ n. drop n rows) place))
-
-  range-none : (from to : ℕ) → from ≡ to → slice_range rows from to ≡ []
-  range-none from to is = let none : to - from ≡ 0 = omega arith in ap (λ n. take n (drop from rows)) none
-
   -- the texts of shares that were made are the lines of all their rows
   shares-text : (old new : List Share) (from to : ℕ) → AreShares from old to → length new ≡ length old →
       ((k : ℕ) (d : Share) → k < length old → MakesShare line rows (get_or old k d) (get_or new k d)) → AreMade new →
       flat_map share_text new ≡ flat_map line (slice_range rows from to)
-  shares-text [] [] from to are count makes made = ap (flat_map line) (sym (range-none from to are))
+  shares-text [] [] from to are count makes made = ap (flat_map line) (sym (range-none rows from to are))
   shares-text [] (h ∷ hs) from to are count makes made = absurd (let no : ⊥ = omega (arith, count) in no)
   shares-text (g ∷ gs) [] from to are count makes made = absurd (let no : ⊥ = omega (arith, count) in no)
   shares-text (g ∷ gs) (h ∷ hs) from to are count makes made =
@@ -62,7 +49,7 @@ module _ {X : Type 0} (line : X → List ℕ) (rows : List X) where
       shares-text gs hs g.to to are.2 (omega (arith, count)) (λ k d lt. makes (suc k) d (omega (arith, lt))) (λ k d lt. made (suc k) d (omega (arith, lt))) in
       (λ i. text i ++ rest i)
       ∙ sym (flat_map-append line (slice_range rows from g.to) (slice_range rows g.to to))
-      ∙ ap (flat_map line) (range-split from g.to to are.1 (shares-ordered g.to gs to are.2))
+      ∙ ap (flat_map line) (range-split rows from g.to to are.1 (shares-ordered g.to gs to are.2))
 
   -- the texts of all shares were appended, of which as many were written back over those that were cut
   pub joined_text : (cut old new : List Share) (len : ℕ) (before after : List ℕ) (count : ℕ) → AreShares 0 cut count → count ≡ length rows → old ≡ cut → length new ≡ length old → len ≡ length new →

@@ -1,3 +1,4 @@
 pub mod Shares
 pub mod DraftView
+pub mod Blocks
 pub mod Writes

@@ -74,6 +74,21 @@ impl Draft {
         }
     }
 
+    /// A text that grows on behind what it has.
+    pub fn of(text: Vec<u8>) -> Draft
+        ensures { result.text ≡ text.items }
+    {
+        let end = text.len();
+        Draft { bytes: text, end }
+    }
+
+    /// The text so far.
+    pub fn as_slice(&self) -> &[u8]
+        ensures { result.now ≡ self.now.text }
+    {
+        &self.bytes[..self.end]
+    }
+
     /// The text alone.
     pub fn into_text(self) -> Vec<u8>
         ensures { result.items ≡ self.text }
@@ -96,11 +111,12 @@ impl Draft {
         self.end = self.end.min(len);
     }
 
-    /// Reserves memory for more bytes. Where so much can't be had at once, the text may still grow into less.
+    /// Reserves memory for more bytes behind the text. Where so much can't be had at once, it may still grow into less.
     pub fn reserve(&mut self, more: usize)
         ensures { self.new.text ≡ self.old.text }
     {
-        let _ = self.bytes.reserve(more);
+        let room = self.bytes.len() - self.end;
+        let _ = self.bytes.reserve(more.saturating_sub(room));
     }
 
     /// Makes room for some bytes.

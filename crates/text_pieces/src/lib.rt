@@ -1,18 +1,30 @@
-//! A text in pieces. Texts that workers made side by side are one text without a copy: its pieces are written one after
-//! another. Short pieces are joined as they come, so that a short text is written at once. What writers of texts share
-//! stands here too: a text under way, whose values and runs are stored in room that was made ready before; runs of bytes,
-//! found by lanes; and the shares of rows that workers make side by side.
+//! Texts that are written part by part.
+//!
+//! A text in pieces is one text without a copy: its pieces are written one after another. Short pieces are joined as they
+//! come, so that a short text is written at once. A text of rows never stands whole in memory: its lines are made block by
+//! block, by workers side by side, in buffers that were had before, and written in order. What writers of texts share stands
+//! here too: a text under way, whose values and runs are stored in room that was made ready before; runs of bytes, found by
+//! lanes; and writes that want no memory.
 //! It serves the crates above alone.
 #![tactic(auto)]
 
+mod block;
+mod blocks;
 mod draft;
 mod pieces;
+mod rounds;
+mod row_lines;
+mod rowed;
 mod runs;
 mod shares;
+mod workers;
 mod writing;
 
 pub use draft::{CELL_ROOM, Draft};
 pub use pieces::Pieces;
+pub use row_lines::RowLines;
+pub use rowed::RowedText;
 pub use runs::run_behind;
 pub use shares::{Share, cut_shares, push_shares};
+pub use workers::Workers;
 pub use writing::{write_text, write_value};
