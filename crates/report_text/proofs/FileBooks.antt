@@ -52,7 +52,3 @@ module _ (files : List FileBook) (k : ℕ) (book : BookView) (booked : option_ma
 -- a text that grew once more
 pub grown : (before front piece text next : List ℕ) → text ≡ before ++ front → next ≡ text ++ piece → next ≡ before ++ (front ++ piece)
 grown before front piece text next is more = more ∙ ap (λ xs. xs ++ piece) is ∙ append_assoc before front piece
-
--- a text with one that is known behind it
-pub ends_with : (before front text tail closing : List ℕ) → text ≡ before ++ front → tail ≡ closing → text ++ tail ≡ before ++ (front ++ closing)
-ends_with before front text tail closing is ends = (λ i. is i ++ ends i) ∙ append_assoc before front closing

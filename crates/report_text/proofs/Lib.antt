@@ -2,6 +2,8 @@ pub mod FileBooks
 pub mod Chunks
 pub mod RunTexts
 pub mod Texts
+pub mod ReportTexts
+pub mod RowCells
 pub mod RowTexts
 pub mod TwoDigits
 mod Worked

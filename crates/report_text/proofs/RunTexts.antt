@@ -1,8 +1,9 @@
 -- Runs of ordinary bytes: their masks, their lengths and their texts.
-use Rattle.std.proofs.Common.{◌≡◌, ℕ, zero, suc, ◌+◌, ◌<◌, ◌≤◌, Bool, true, false, cond, ◌||◌, List, [], ◌∷◌, ◌++◌, length, take, drop, refl, sym, ◌∙◌, ap, ap₂, arith, not, append_assoc, eqb, ltb, get_or, drop-cons}
+use Rattle.std.proofs.Common.{◌≡◌, ℕ, zero, suc, ◌+◌, ◌-◌, ◌<◌, ◌≤◌, Bool, true, false, cond, ◌||◌, List, [], ◌∷◌, ◌++◌, length, take, drop, refl, sym, ◌∙◌, ap, ap₂, arith, not, append_assoc, eqb, ltb, get_or, drop-cons, append-nil, length-drop}
+use Rattle.std.specs.Prelude.{slice_range}
 use Rattle.std.specs.List.{prefix_len}
 use Rattle.std.proofs.lemmas.Bool.{ne_eqb, ltb-false}
-use Rattle.std.proofs.lemmas.List.{drop-drop}
+use Rattle.std.proofs.lemmas.List.{drop-drop, drop_all}
 use Rattle.csv_source.specs.Shown.{shown, shown_byte}
 use Rattle.report_text.specs.Ordinary.{is_ordinary, is_spelled}
 
@@ -57,3 +58,23 @@ byte_text new newer bytes end lt text =
     let one : end + 1 ≡ suc end = omega arith in
     (λ i. text i ++ shown (drop (one i) bytes)) ∙ append_assoc new (shown_byte (get_or bytes end 0)) (shown (drop (suc end) bytes))
     ∙ ap (λ xs. new ++ shown xs) (sym (drop-cons bytes end 0 lt))
+
+-- ---- what stands from a place on, cut behind its run of ordinary bytes
+
+pub run_ahead : (bytes : List ℕ) (at end : ℕ) → end ≡ at + prefix_len is_ordinary (drop at bytes) → shown (drop at bytes) ≡ slice_range bytes at end ++ shown (drop end bytes)
+run_ahead bytes at end is =
+    let count : end - at ≡ prefix_len is_ordinary (drop at bytes) = omega (arith, is) in
+    let place : at + (end - at) ≡ end = omega (arith, is) in
+    shown_run (end - at) (drop at bytes) (omega (arith, count))
+    ∙ ap (λ rest. take (end - at) (drop at bytes) ++ shown rest) (drop-drop (end - at) at bytes ∙ ap (λ k. drop k bytes) place)
+
+pub byte_ahead : (bytes : List ℕ) (end : ℕ) → end < length bytes → shown (drop end bytes) ≡ shown_byte (get_or bytes end 0) ++ shown (drop (end + 1) bytes)
+byte_ahead bytes end lt = let one : suc end ≡ end + 1 = omega arith in ap shown (drop-cons bytes end 0 lt ∙ ap (λ k. get_or bytes end 0 ∷ drop k bytes) one)
+
+-- a run that ends with the bytes
+pub run_last : (bytes : List ℕ) (at end : ℕ) → end ≡ at + prefix_len is_ordinary (drop at bytes) → length bytes ≤ end → shown (drop at bytes) ≡ slice_range bytes at (length bytes)
+run_last bytes at end is last =
+    let rest : List ℕ = drop at bytes in
+    let n : ℕ = length bytes - at in
+    let long : length rest ≡ n = length-drop at bytes in
+    shown_run n rest (omega (arith, is, last)) ∙ ap (λ xs. take n rest ++ shown xs) (drop_all n rest (omega (arith, long))) ∙ append-nil (take n rest)

@@ -2,19 +2,18 @@
 ghost use Rattle.std.specs.Prelude.{◌≡◌, ◌+◌, ◌++◌, IfOk, OnOk};
 ghost use Rattle.report_text.specs.BatchReport.{all_in, scan_lines, scans_from, stored_in};
 ghost use Rattle.report_text.specs.Printable.{IsPrintableBatch};
-ghost use Rattle.report_text.specs.Report.{batch_closing, batch_lines};
+ghost use Rattle.report_text.specs.Report.{batch_closing, report_of};
+ghost use Rattle.report_text.specs.declared.outcome.Outcome.TheVariants as outcome;
 
 use crate::Stats;
 use crate::found::push_found;
 use crate::lines::{push_errors, push_row_count, push_stats_of};
 use crate::rejects::{push_scan, push_stored};
-use crate::table::push_table;
-use crate::workers::Workers;
+use crate::report_rows::ReportRows;
 use csv_sniffer::Sniffed;
 use csv_source::NoMemory;
 use file_list::Batch;
-use std::thread::Threads;
-use text_pieces::{Draft, Pieces};
+use text_pieces::{Draft, RowedText, Workers};
 
 /// Appends the scan and the stored rejects of each file, in order.
 fn push_scans(into: &mut Draft, sniffed: &Sniffed, batch: &Batch) -> Result<(), NoMemory>
@@ -77,11 +76,11 @@ pub fn all_in(batch: &Batch) -> Result<u64, NoMemory>
 /// What is reported of several loaded files, under what was found in the first one; of their rejects, whether those that
 /// are stored are printed.
 #[derive(Clone, Copy)]
-pub(crate) struct BatchReport<'a> {
-    pub(crate) sniffed: &'a Sniffed,
-    pub(crate) batch: &'a Batch,
-    pub(crate) store: bool,
-    pub(crate) stats: &'a Option<Stats>,
+struct BatchReport<'a> {
+    sniffed: &'a Sniffed,
+    batch: &'a Batch,
+    store: bool,
+    stats: &'a Option<Stats>,
 }
 
 /// Appends what stands behind the rows of several loaded files.
@@ -96,21 +95,28 @@ fn push_batch_closing(into: &mut Draft, report: &BatchReport<'_>) -> Result<(), 
     push_stats_of(into, report.stats)
 }
 
-/// Appends several loaded files with their rows, under what was found in the first one.
-pub(crate) fn push_batch<R: Threads + Sync>(
+/// The text of the report of several loaded files, under what was found in the first one: its lines, each ended by LF. The rows
+/// are rendered as they are written.
+pub fn render_batch<R>(
     workers: &Workers<'_, R>,
-    into: &mut Pieces,
-    report: &BatchReport<'_>,
-) -> Result<(), NoMemory>
-    requires { IsPrintableBatch report.now.sniffed.now report.now.batch.now }
-    ensures { let lines = batch_lines report.now.sniffed.now report.now.batch.now report.now.store report.now.stats.now in
-        OnOk result (into.new ≡ into.old ++ lines) }
+    sniffed: &Sniffed,
+    batch: Batch,
+    store: bool,
+    stats: Option<Stats>,
+) -> Result<RowedText<ReportRows>, NoMemory>
+    requires { IsPrintableBatch sniffed.now batch }
+    ensures { IfOk result (λ text. text ≡ report_of (outcome.Batch sniffed.now batch store stats)) }
 {
     let mut head = Draft::new(workers.alloc);
-    push_found(&mut head, report.sniffed)?;
-    into.push(head.into_text())?;
-    push_table(workers, into, report.batch.table())?;
+    push_found(&mut head, sniffed)?;
+    let report = BatchReport {
+        sniffed,
+        batch: &batch,
+        store,
+        stats: &stats,
+    };
     let mut tail = Draft::new(workers.alloc);
-    push_batch_closing(&mut tail, report)?;
-    into.push(tail.into_text())
+    push_batch_closing(&mut tail, &report)?;
+    let rows = ReportRows::new(batch.into_table());
+    RowedText::new(workers, head.into_text(), rows, tail.into_text())
 }

@@ -2,11 +2,12 @@
 ghost use Rattle.std.specs.Prelude.{◌≡◌, ◌<◌, ◌≤◌, ◌++◌, drop, false, length, IfOk, OnOk};
 ghost use Rattle.std.specs.Fmt.{digit_glyph};
 ghost use Rattle.csv_source.specs.Shown.{shown_byte, shown, shown_option, hex_digits};
+ghost use Rattle.text_pieces.specs.Writes.{Writes};
 ghost use Rattle.report_text.specs.Moves.{HasShown};
 
 use crate::runs::run_end;
-use csv_source::NoMemory;
-use text_pieces::Draft;
+use csv_source::{Failed, NoMemory, Sink};
+use text_pieces::{Draft, write_text};
 
 /// The byte of a hexadecimal digit.
 fn hex_digit(value: u8) -> u8
@@ -81,4 +82,37 @@ pub(crate) fn push_shown_option(into: &mut Draft, byte: Option<u8>) -> Result<()
         Some(byte) => push_shown_byte(into, byte),
         None => Ok(()),
     }
+}
+
+/// Writes a byte as it is shown.
+fn write_shown_byte<K: Sink>(sink: &mut K, byte: u8) -> Result<(), Failed>
+    ensures { Writes (K.taken sink.old) (K.taken sink.new) (K.faults sink.old) (K.faults sink.new) result (shown_byte byte) }
+{
+    match byte {
+        b'\\' => write_text(sink, b"\\\\"),
+        b'|' => write_text(sink, b"\\|"),
+        b'\n' => write_text(sink, b"\\n"),
+        b'\r' => write_text(sink, b"\\r"),
+        b'\t' => write_text(sink, b"\\t"),
+        0..=31 | 127 => {
+            let hex = [b'\\', b'x', hex_digit(byte / 16), hex_digit(byte % 16)];
+            write_text(sink, &hex)
+        }
+        _ => write_text(sink, &[byte]),
+    }
+}
+
+/// Writes bytes as they are shown, with no memory.
+pub(crate) fn write_shown<K: Sink>(sink: &mut K, bytes: &[u8]) -> Result<(), Failed>
+    ensures { Writes (K.taken sink.old) (K.taken sink.new) (K.faults sink.old) (K.faults sink.new) result (shown bytes.now) }
+{
+    let mut at = 0;
+    let mut end = run_end(bytes, 0);
+    while end < bytes.len() {
+        write_text(sink, &bytes[at..end])?;
+        write_shown_byte(sink, bytes[end])?;
+        at = end + 1;
+        end = run_end(bytes, at);
+    }
+    write_text(sink, &bytes[at..])
 }

@@ -1,7 +1,7 @@
 use Rattle.std.proofs.Common.{◌++◌, ap, sym, ◌∙◌, append_assoc, append-nil}
 use Rattle.std.proofs.lemmas.Result.{IfOk-equal}
 use Rattle.report_text.specs.Report.{closing_lines, found_lines}
-use Rattle.report_text.proofs.text.push_summary.Goals as goal
+use Rattle.report_text.proofs.loaded.push_summary.Goals as goal
 
 pub returns : goal.returns
 returns c =

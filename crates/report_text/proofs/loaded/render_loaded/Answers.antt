@@ -1,32 +1,29 @@
-use Rattle.std.proofs.Common.{rules, ◌≡◌, ◌++◌, List, [], ℕ, ap, ◌∙◌, subst, sym}
+use Rattle.std.proofs.Common.{◌≡◌, ◌++◌, List, [], ℕ, ap, ◌∙◌, subst, sym}
 use Rattle.std.specs.Prelude.{All, flat_map}
-use Rattle.std.proofs.lemmas.Result.{IfOk-equal}
+use Rattle.std.specs.List.{concat}
+use Rattle.std.proofs.lemmas.Result.{IfOk-weaker}
+use Rattle.value_types.specs.Datum.{Datum}
 use Rattle.report_text.specs.Lines.{row_line}
 use Rattle.report_text.specs.Report.{closing_lines, found_lines}
 use Rattle.report_text.specs.PrintableRows.{IsPrintableRow}
 use Rattle.report_text.proofs.Chunks.{printable_rows}
-use Rattle.report_text.proofs.FileBooks.{ends_with, grown}
-use Rattle.report_text.proofs.text.push_loaded.Goals as goal
+use Rattle.report_text.proofs.ReportTexts.{joined}
+use Rattle.report_text.proofs.loaded.render_loaded.Goals as goal
 
-pub push_table-requires : goal.push_table-requires
-push_table-requires g c =
-    let loaded = c.args.loaded.now in (
-      search rules,
-      subst (λ tys. All (IsPrintableRow tys) loaded.table.rows) (sym c.requires.types) (printable_rows loaded.sniffed.types loaded.table.rows c.requires.rows c.requires.values),
-    )
+pub new-rows-requires : goal.new-rows-requires
+new-rows-requires g c =
+    let loaded = c.args.loaded in
+    subst (λ tys. All (IsPrintableRow tys) loaded.table.rows) (sym c.requires.types) (printable_rows loaded.sniffed.types loaded.table.rows c.requires.rows c.requires.values)
 
 pub returns : goal.returns
 returns g c =
-    let loaded = c.args.loaded.now in
-    let before : List ℕ = c.args.into.now in
+    let loaded = c.args.loaded in
     let found : List ℕ = found_lines loaded.sniffed in
-    let rows : List ℕ = flat_map row_line loaded.table.rows in
+    let rows : List (List Datum) = loaded.table.rows in
     let closing : List ℕ = closing_lines loaded [] in
+    let head : List ℕ = c.into_text.result.items in
     let tail : List ℕ = c.into_text-2.result.items in
-    let t1 : List ℕ = c.push.new.self in
-    let t2 : List ℕ = c.push_table.new.into in
-    let head_is : c.into_text.result.items ≡ found = c.into_text.ensures ∙ c.in_ok-push_found.ensures ∙ ap (λ xs. xs ++ found) c.new-head.ensures in
+    let head_is : head ≡ found = c.into_text.ensures ∙ c.in_ok-push_found.ensures ∙ ap (λ xs. xs ++ found) c.new-head.ensures in
     let tail_is : tail ≡ closing = c.into_text-2.ensures ∙ c.in_ok-push_closing.ensures ∙ ap (λ xs. xs ++ closing) c.new-tail.ensures in
-    let p1 : t1 ≡ before ++ found = c.in_ok-push.ensures ∙ ap (λ xs. before ++ xs) head_is in
-    let p2 : t2 ≡ before ++ (found ++ rows) = grown before found rows t1 t2 p1 c.in_ok-push_table.ensures in
-    IfOk-equal c.push-2.result _ _ _ c.push-2.ensures (ends_with before (found ++ rows) t2 tail closing p2 tail_is)
+    let text_is = joined head found tail closing c.new-rows.result rows head_is c.new-rows.ensures tail_is in
+    IfOk-weaker c.new.result (λ text. text ≡ head ++ (concat c.new-rows.result ++ tail)) (λ text. text ≡ (found ++ flat_map row_line rows) ++ closing) (λ text is. is ∙ text_is) c.new.ensures

@@ -1,15 +1,11 @@
 use Rattle.std.proofs.Common.{◌≡◌, ◌++◌, ◌∷◌, [], List, ℕ, Some, take, ap, ◌∙◌, sym, append_assoc, arith, codes, get_or}
 use Rattle.std.specs.Prelude.{flat_map, slice_get}
-use Rattle.std.specs.Option.{option_and_then}
 use Rattle.std.proofs.lemmas.List.{take_all}
-use Rattle.std.proofs.lemmas.Option.{slice_get-get_or}
 use Rattle.value_types.specs.Datum.{Datum, datum_of}
 use Rattle.report_text.specs.Lines.{cell_text}
 use Rattle.report_text.proofs.Texts.{flat_map-take_more, join-flat_map}
+use Rattle.report_text.proofs.RowCells.{cell_in, piece}
 use Rattle.report_text.proofs.rows.push_row.Goals as goal
-
-abbrev piece : Datum → List ℕ
-piece cell = 124 ∷ cell_text cell
 
 pub loop-column-preserved : goal.loop-column-preserved
 loop-column-preserved c =
@@ -17,7 +13,7 @@ loop-column-preserved c =
     let cells : List Datum = get_or rows c.args.row [] in
     let k = c.loop-column.column in
     let cell : Datum = datum_of c.cell_at.result in
-    let at : slice_get cells k ≡ Some cell = ap (λ o. option_and_then (λ (cs : List Datum). slice_get cs k) o) (sym (slice_get-get_or rows c.args.row [] c.requires.within)) ∙ c.cell_at.ensures in
+    let at : slice_get cells k ≡ Some cell = cell_in rows k c.args.row cell c.requires.within c.cell_at.ensures in
     let before : List ℕ = c.args.into.now.text in
     let front : List ℕ = flat_map piece (take k cells) in
     let text : List ℕ = cell_text cell in
