@@ -8,6 +8,7 @@ ghost use Rattle.csv_loader.specs.Databases.{is_too_wide, stored_files};
 use crate::ending::Ending;
 use crate::loader::Loader;
 use crate::reply::Reply;
+use crate::reply_text::ReplyText;
 use csv_sniffer::Sniffed;
 use csv_source::NoMemory;
 use db_writer::{Contents, write_database};
@@ -47,6 +48,6 @@ impl<'a, R: Threads + Sync, G> Loader<'a, R, G> {
             files: stored_files(options.store_rejects, batch.files()),
         };
         let text = write_database(self.rt, self.alloc, &contents, options.threads)?;
-        Ok(Reply::new(Ending::Answered(all_in(batch)?, sniffed.other_delim), text))
+        Ok(Reply::new(Ending::Answered(all_in(batch)?, sniffed.other_delim), ReplyText::Whole(text)))
     }
 }

@@ -5,6 +5,7 @@ ghost use Rattle.csv_loader.specs.Reply.{rejects_reply};
 use crate::ending::Ending;
 use crate::loader::Loader;
 use crate::reply::Reply;
+use crate::reply_text::ReplyText;
 use csv_sniffer::Sniffed;
 use csv_source::NoMemory;
 use file_list::Batch;
@@ -20,6 +21,6 @@ impl<'a, R, G> Loader<'a, R, G> {
         let faults = all_in(&batch)?;
         let (_table, file) = batch.into_only();
         let text = write_rejects(self.alloc, &file.book)?;
-        Ok(Reply::new(Ending::Answered(faults, sniffed.other_delim), text))
+        Ok(Reply::new(Ending::Answered(faults, sniffed.other_delim), ReplyText::Whole(text)))
     }
 }
