@@ -1,10 +1,10 @@
 //! Rows as the records of an SQLite database ("Database File Format", sections 1.6 and 2.1).
 //!
 //! A number takes one to eight bytes. A record is a header with the type of each value, and the values behind one another;
-//! a row is filled value by value into two lists, of types and of values, and then written as one record. A cell is a
+//! a row is filled value by value into two drafts, of types and of values, and then written as one record. A cell is a
 //! record with its length and its rowid, and a leaf holds the cells of rows. What is written reads back by the kit's own
 //! definitions of the format.
-//! It serves `db_pages` alone.
+//! It serves `db_pages` and `db_writer` alone.
 #![tactic(auto)]
 
 mod appending;
