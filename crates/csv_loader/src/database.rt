@@ -48,6 +48,9 @@ impl<'a, R: Threads + Sync, G> Loader<'a, R, G> {
             files: stored_files(options.store_rejects, batch.files()),
         };
         let text = write_database(self.rt, self.alloc, &contents, options.threads)?;
-        Ok(Reply::new(Ending::Answered(all_in(batch)?, sniffed.other_delim), ReplyText::Whole(text)))
+        Ok(Reply::new(
+            Ending::Answered(all_in(batch)?, sniffed.other_delim),
+            ReplyText::Whole(text),
+        ))
     }
 }

@@ -12,8 +12,7 @@ ghost use Rattle.csv_sniffer.specs.Input.{found};
 ghost use Rattle.csv_loader.specs.Batch.{IsOpened, IsReadWhole, IsReadOver};
 ghost use Rattle.csv_loader.specs.Loading.{is_headed_otherwise, IsHead, GoesBehindSample, IsFileLoad, IsLaterLoad};
 ghost use Rattle.csv_loader.specs.Reading.{schema_of};
-ghost use Rattle.csv_loader.specs.Reply.{sniffed_outcome};
-ghost use Rattle.report_text.specs.Printable.{IsPrintable};
+ghost use Rattle.csv_loader.specs.Reply.{IsShort, sniffed_outcome};
 
 use crate::loader::Loader;
 use crate::loading::FileLoad;
@@ -98,7 +97,7 @@ impl<'a, R, G> Loader<'a, R, G> {
     fn sniffed_outcome(&self, input: &[u8]) -> Result<Outcome, NoMemory>
         requires accepted { IsAccepted self.now.options.now }
         ensures ok { IfOk result (λ outcome. outcome ≡ sniffed_outcome self.now.options.now input.now) }
-        ensures printable { IfOk result IsPrintable }
+        ensures short { IfOk result IsShort }
     {
         let finding = sniff_input(self.alloc, self.options, input)?;
         let sniffed = finding.sniffed;
@@ -117,7 +116,7 @@ impl<'a, R, G> Loader<'a, R, G> {
         requires accepted { IsAccepted self.now.options.now }
         ensures ok { let o = self.now.options.now in
             IfOk result (λ outcome. IsReadWhole o.max_input (S.held source.old) name.now (S.left source.new) (λ input. outcome ≡ sniffed_outcome o input)) }
-        ensures printable { IfOk result IsPrintable }
+        ensures short { IfOk result IsShort }
         ensures too_large { result ≡ Err stops.TooLarge → IsReadOver self.now.options.now.max_input (S.held source.old) name.now (S.left source.new) }
         ensures failed { result ≡ Err stops.Failed → Rose (S.faults source.old) (S.faults source.new) ⊎ Lacks (S.held source.old) name.now }
         ensures held { S.held source.new ≡ S.held source.old }

@@ -2,10 +2,10 @@
 ghost use Rattle.load_options.specs.Accepted.{IsAccepted};
 ghost use Rattle.std.specs.Prelude.{◌≡◌, true, length, map, All, IfOk, IfSome};
 ghost use Rattle.column_taps.specs.Seen.{IsFresh};
-ghost use Rattle.report_text.specs.Printable.{IsPrintable, IsPrintableBatch};
+ghost use Rattle.report_text.specs.Printable.{IsPrintableBatch};
 ghost use Rattle.csv_loader.specs.Batch.{HasFiles, IsPrintableFiles};
 ghost use Rattle.csv_loader.specs.Fitting.{is_of_one, is_unfit, passed_bound};
-ghost use Rattle.csv_loader.specs.Reply.{bounded_reply, fitting_reply, load_reply, no_column, other_header};
+ghost use Rattle.csv_loader.specs.Reply.{IsShort, bounded_reply, fitting_reply, load_reply, no_column, other_header};
 
 use crate::answering::Answer;
 use crate::batch::Load;
@@ -46,7 +46,7 @@ impl<'a, R, G> Loader<'a, R, G> {
     /// The outcome where the type of a column is given that isn't there.
     pub fn no_column(&self, sniffed: &Sniffed) -> Result<Option<Outcome>, NoMemory>
         ensures ok { IfOk result (λ outcome. outcome ≡ no_column self.now.options.now sniffed.now) }
-        ensures printable { IfOk result (λ outcome. IfSome outcome IsPrintable) }
+        ensures short { IfOk result (λ outcome. IfSome outcome IsShort) }
     {
         let Some(name) = missing_name(&self.options.column_types, &sniffed.names) else {
             return Ok(None);
@@ -60,7 +60,7 @@ impl<'a, R, G> Loader<'a, R, G> {
 /// The outcome where a file of that name begins with another header than the first one.
 fn other_header(alloc: Global, sniffed: &Sniffed, file: Bytes) -> Result<Outcome, NoMemory>
     ensures ok { IfOk result (λ outcome. outcome ≡ other_header sniffed.now file) }
-    ensures printable { IfOk result IsPrintable }
+    ensures short { IfOk result IsShort }
 {
     let names = Names::copy_of(alloc, &sniffed.names)?;
     Ok(Outcome::Mismatch(Mismatch::OtherHeader(file, names)))

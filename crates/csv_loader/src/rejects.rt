@@ -21,6 +21,9 @@ impl<'a, R, G> Loader<'a, R, G> {
         let faults = all_in(&batch)?;
         let (_table, file) = batch.into_only();
         let text = write_rejects(self.alloc, &file.book)?;
-        Ok(Reply::new(Ending::Answered(faults, sniffed.other_delim), ReplyText::Whole(text)))
+        Ok(Reply::new(
+            Ending::Answered(faults, sniffed.other_delim),
+            ReplyText::Whole(text),
+        ))
     }
 }
