@@ -1,5 +1,5 @@
 //! The queue of windows by itself.
-ghost use Rattle.std.specs.Prelude.{◌≡◌, ◌+◌, ◌<◌, ◌^◌, length, OnOk};
+ghost use Rattle.std.specs.Prelude.{◌≡◌, ◌+◌, ◌<◌, ◌^◌, length, IfOk};
 ghost use Rattle.crossbeam_queue.specs.Passes.{view, IsPassOf};
 ghost use Rattle.pipe_load.specs.declared.pass_view.Role.TheVariants as roles;
 
@@ -10,28 +10,26 @@ use std::process::Abort;
 use std::sync::Wait;
 use std::test::Fail;
 
-/// Puts the window of this number, where so many were put before.
-fn put<R: Wait + Abort>(
-    rt: &R,
-    alloc: Global,
-    windows: &Windows,
-    pass: &mut Pass,
-    number: u64,
-    bytes: &[u8],
-) -> Result<(), NoMemory>
-    requires pass { IsPassOf windows.now.line pass.old }
-    requires caller { (view pass.old).role ≡ roles.Caller }
-    requires few { number < 2 ^ 32 }
-    requires before { (length (view pass.old).put ≡ number) × ((view pass.old).puts ≡ number) }
-    ensures pass { OnOk result (IsPassOf windows.now.line pass.new) }
-    ensures caller { OnOk result ((view pass.new).role ≡ roles.Caller) }
-    ensures before { OnOk result ((length (view pass.new).put ≡ number + 1) × ((view pass.new).puts ≡ number + 1)) }
+/// The window of this number, with a copy of the bytes.
+fn window_of(alloc: Global, number: u64, bytes: &[u8]) -> Result<Window, NoMemory>
+    ensures { IfOk result (λ window. window.number ≡ number) }
 {
     let mut copy = Buffer::new(alloc);
     copy.replace(bytes)?;
-    let window = Window::of(number, copy);
+    Ok(Window::of(number, copy))
+}
+
+/// Puts a window, where as many as its number were put before.
+fn put<R: Wait + Abort>(rt: &R, windows: &Windows, pass: &mut Pass, window: Window)
+    requires pass { IsPassOf windows.now.line pass.old }
+    requires caller { (view pass.old).role ≡ roles.Caller }
+    requires few { window.number < 2 ^ 32 }
+    requires before { (length (view pass.old).put ≡ window.number) × ((view pass.old).puts ≡ window.number) }
+    ensures pass { IsPassOf windows.now.line pass.new }
+    ensures caller { (view pass.new).role ≡ roles.Caller }
+    ensures before { (length (view pass.new).put ≡ window.number + 1) × ((view pass.new).puts ≡ window.number + 1) }
+{
     assert!(rt; windows.put(rt, pass, Item::Window(window)).is_ok());
-    Ok(())
 }
 
 /// Whether an item is the window of this number and these bytes.
@@ -51,8 +49,8 @@ fn is_mark(item: Option<Item>) -> bool {
 fn two_passes_take_windows_in_order(rt: HostRuntime) -> Result<(), Fail> {
     let alloc = rt.alloc();
     let (windows, mut pass) = Windows::new(alloc)?;
-    put(&rt, alloc, &windows, &mut pass, 0, b"1,2\n")?;
-    put(&rt, alloc, &windows, &mut pass, 1, b"3")?;
+    put(&rt, &windows, &mut pass, window_of(alloc, 0, b"1,2\n")?);
+    put(&rt, &windows, &mut pass, window_of(alloc, 1, b"3")?);
     assert!(rt; windows.put(&rt, &mut pass, Item::EndMark).is_ok());
     let mut stage = windows.split(&mut pass);
     assert!(rt; is_window(windows.take(&rt, &mut stage), 0, b"1,2\n"));
