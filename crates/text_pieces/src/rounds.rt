@@ -19,6 +19,7 @@ const BLOCK_BYTES: usize = 4 << 20;
 const BLOCK_ROWS: usize = 65_536;
 
 /// A block for each worker that is of use, and how many rows are made at once in each. They are used again from round to round.
+/// How many bytes a row takes shows in the lines that were made: rounds begin with few rows and grow up to blocks of some size.
 #[derive(Drop)]
 pub(crate) struct Rounds {
     alloc: Global,
@@ -26,12 +27,25 @@ pub(crate) struct Rounds {
     blocks: Vec<Block>,
 }
 
-/// How many of some rows a worker makes at once, where so many workers share them.
+/// How many of some rows a worker makes at once in the first round, where so many workers share them.
 fn at_once<T: RowLines>(rows: &T, workers: usize) -> usize
     ensures { 0 < result }
 {
-    let most = (BLOCK_BYTES / rows.room(1).max(1)).clamp(1, BLOCK_ROWS);
-    rows.count().div_ceil(workers.max(1)).clamp(1, most)
+    let most = (BLOCK_BYTES / rows.room(1).max(1)).min(BLOCK_ROWS);
+    let few = (most / 8).max(1);
+    rows.count().div_ceil(workers.max(1)).clamp(1, few)
+}
+
+/// The bytes of the longest of some blocks, and no end where the lines of one couldn't be made.
+fn longest(blocks: &[Block]) -> usize {
+    let mut most = 0;
+    for block in blocks {
+        if !block.made {
+            return usize::MAX;
+        }
+        most = block.text.len().max(most);
+    }
+    most
 }
 
 impl Rounds {
@@ -45,7 +59,8 @@ impl Rounds {
         let threads = workers.threads as usize;
         let at_once = at_once(rows, threads);
         let count = rows.count().div_ceil(at_once).min(threads).max(1);
-        let room = rows.room(at_once).min(BLOCK_BYTES);
+        let share = rows.count().div_ceil(count);
+        let room = rows.room(share).min(BLOCK_BYTES);
         let blocks = new_blocks(workers.alloc, count, room)?;
         Ok(Rounds {
             alloc: workers.alloc,
@@ -75,6 +90,19 @@ impl Rounds {
         to
     }
 
+    /// Takes more rows to a round where all blocks were short, and fewer where one was long.
+    fn fit(&mut self)
+        requires ready { IsReady self.old }
+        ensures ready { IsReady self.new }
+    {
+        let longest = longest(&self.blocks);
+        if longest > BLOCK_BYTES {
+            self.at_once = (self.at_once / 2).max(1);
+        } else if longest <= BLOCK_BYTES / 2 {
+            self.at_once = self.at_once.saturating_mul(2).min(BLOCK_ROWS);
+        }
+    }
+
     /// Writes the lines of all rows from `from` on.
     pub(crate) fn write_from<R: Threads + Sync, T: RowLines + Sync, K: Sink>(
         &mut self,
@@ -92,6 +120,7 @@ impl Rounds {
         while at < count {
             let to = self.make_next(rt, rows, at);
             write_blocks(rows, &self.blocks, sink)?;
+            self.fit();
             at = to;
         }
         Ok(())

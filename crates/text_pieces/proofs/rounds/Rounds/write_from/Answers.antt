@@ -25,7 +25,7 @@ loop-at-preserved g c =
     let made = c.make_next-to in
     let are : AreBlocks c.loop-at.at c.deref.result.now made.result = subst (λ bs. AreBlocks c.loop-at.at bs made.result) (sym c.deref.ensures.value) made.ensures.blocks in
     record {
-      ready = made.ensures.ready;
+      ready = c.fit.ensures.ready;
       within = made.ensures.within;
       text = more_written _ (concat (drop made.result lines)) c.loop-at.invariant.text (lines-left lines c.loop-at.at c.deref.result.now made.result are) c.in_ok-write_blocks.ensures;
     }
