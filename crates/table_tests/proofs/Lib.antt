@@ -1,1 +1,2 @@
 mod FeedRooms
+mod LetterLines

@@ -10,6 +10,7 @@ mod report_text_reports;
 mod tables;
 mod taps;
 mod text_pieces_pieces;
+mod text_pieces_rowed;
 mod value_types_cells;
 mod value_types_fronts;
 mod value_types_lists;

@@ -5,12 +5,12 @@ ghost use Rattle.value_types.specs.OfType.{fit_all};
 ghost use Rattle.value_types.specs.Spelled.{IsSpelledCell};
 
 use super::tables::{number, push, two_types};
-use super::text_pieces_pieces::is_text;
+use super::text_pieces_rowed::is_rowed_text;
 use column_store::Table;
-use csv_source::NoMemory;
-use csv_writer::{write_rows, write_table};
+use csv_source::{MemorySink, NoMemory};
+use csv_writer::{TableRows, write_rows, write_table};
 use std::alloc::Global;
-use text_pieces::Draft;
+use text_pieces::{Draft, RowLines, Workers};
 use value_types::{Cell, Cells, Names};
 
 const ROWS: &[u8] =
@@ -90,12 +90,16 @@ fn two_chunks_text(alloc: Global) -> Result<Vec<u8>, NoMemory> {
 #[test]
 fn a_table_is_written_whatever_the_threads(rt: HostRuntime) -> Result<(), NoMemory> {
     let alloc = rt.alloc();
-    let table = two_chunks(alloc)?;
     let names = names(alloc)?;
     let expected = two_chunks_text(alloc)?;
     for threads in 1..=64u32 {
-        let text = write_table(&rt, alloc, &names, &table, threads)?;
-        assert!(rt; is_text(alloc, &text, &expected)?);
+        let workers = Workers {
+            rt: &rt,
+            alloc,
+            threads,
+        };
+        let text = write_table(&workers, &names, two_chunks(alloc)?)?;
+        assert!(rt; is_rowed_text(&rt, alloc, text, &expected)?);
     }
     Ok(())
 }
@@ -117,7 +121,36 @@ fn rows_across_chunks_are_written_behind_others(rt: HostRuntime) -> Result<(), N
 fn a_table_of_no_rows_has_a_line_of_names(rt: HostRuntime) -> Result<(), NoMemory> {
     let alloc = rt.alloc();
     let table = Table::new(alloc, &two_types(alloc)?)?;
-    let text = write_table(&rt, alloc, &names(alloc)?, &table, 4)?;
-    assert!(rt; is_text(alloc, &text, NAMES)?);
+    let workers = Workers {
+        rt: &rt,
+        alloc,
+        threads: 4,
+    };
+    let text = write_table(&workers, &names(alloc)?, table)?;
+    assert!(rt; is_rowed_text(&rt, alloc, text, NAMES)?);
+    Ok(())
+}
+
+#[test]
+fn rows_are_written_straight_across_chunks(rt: HostRuntime) -> Result<(), NoMemory> {
+    let alloc = rt.alloc();
+    let rows = TableRows::new(two_chunks(alloc)?);
+    let mut sink = MemorySink::with_room(alloc, 100)?;
+    assert!(rt; rows.count() == 14);
+    assert!(rt; rows.write(6, 9, &mut sink).is_ok());
+    let expected = b"7,\"sixteen bytes or more, and a comma\"\n1,\"a,b\"\n,\"\"\n";
+    assert!(rt; sink.taken() == expected.as_slice());
+    Ok(())
+}
+
+#[test]
+fn all_rows_are_written_straight(rt: HostRuntime) -> Result<(), NoMemory> {
+    let alloc = rt.alloc();
+    let rows = TableRows::new(table(alloc)?);
+    let mut sink = MemorySink::with_room(alloc, ROWS.len())?;
+    let count = rows.count();
+    assert!(rt; count == 7);
+    assert!(rt; rows.write(0, count, &mut sink).is_ok());
+    assert!(rt; sink.taken() == ROWS);
     Ok(())
 }
