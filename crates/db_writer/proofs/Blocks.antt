@@ -1,8 +1,9 @@
 -- Groups of whole blocks, one more at a time.
 use Rattle.std.proofs.Common.{◌≡◌, ℕ, suc, ◌+◌, ◌-◌, ◌*◌, ◌/◌, ◌%◌, ◌^◌, ◌<◌, ◌≤◌, ◌⊎◌, inl, inr, true, min, List, [], ◌∷◌, ◌++◌, length, take, drop, get_or, append-nil, refl, sym, ◌∙◌, ap, subst, arith}
-use Rattle.std.specs.Prelude.{◌==◌, ◌||◌, slice_range, Result, Ok, Err, OnOk}
+use Rattle.std.specs.Prelude.{All, ◌==◌, ◌||◌, slice_range, Result, Ok, Err, OnOk}
 use Rattle.std.proofs.lemmas.Bool.{cases_lt}
 use Rattle.std.proofs.lemmas.Bool.Decides.{nat_tests}
+use Rattle.std.proofs.lemmas.List.Elements.{All-append, All-cons, All-nil}
 use Rattle.std.proofs.lemmas.List.{drop-drop, length-take-le}
 use Rattle.std.proofs.Math.Seq.{take-add}
 use Rattle.value_types.specs.Datum.{Datum}
@@ -13,6 +14,12 @@ use Rattle.db_writer.specs.Written.{records_of}
 use Rattle.db_writer.proofs.RowsLaid.{records_of-append}
 use Rattle.db_writer.specs.declared.groups.Group.{Group}
 use Rattle.db_writer.specs.Groups.{AreBlocks, WritesGroup}
+
+pub share_of_one : (rest left : ℕ) → left ≡ 1 → rest / left ≡ rest
+share_of_one rest left is = let whole : rest / 1 ≡ rest = omega arith in ap (λ n. rest / n) is ∙ whole
+
+pub All-more : {X : Type 0} (P : X → Type 0) (xs new : List X) (x : X) → new ≡ xs ++ x ∷ [] → All P xs → P x → All P new
+All-more P xs new x is all one = subst (All P) (sym is) (All-append P xs (x ∷ []) all (All-cons P x [] one (All-nil P)))
 
 -- a group ends with a block, or with the rows
 module _ (rows from share mul count : ℕ) (within : from ≤ rows) (few : rows < 2 ^ 64)

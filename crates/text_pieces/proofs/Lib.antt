@@ -4,5 +4,4 @@ pub mod Lanes
 pub mod Ranges
 pub mod RowTexts
 pub mod RunLengths
-pub mod ShareTexts
 pub mod WriteSteps

@@ -1,4 +1,3 @@
-pub mod Shares
 pub mod DraftView
 pub mod Blocks
 pub mod Writes

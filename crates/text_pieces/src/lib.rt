@@ -16,7 +16,6 @@ mod rounds;
 mod row_lines;
 mod rowed;
 mod runs;
-mod shares;
 mod workers;
 mod writing;
 
@@ -25,6 +24,5 @@ pub use pieces::Pieces;
 pub use row_lines::RowLines;
 pub use rowed::RowedText;
 pub use runs::run_behind;
-pub use shares::{Share, cut_shares, push_shares};
 pub use workers::Workers;
 pub use writing::{write_text, write_value};

@@ -1,7 +1,6 @@
 use Rattle.std.proofs.Common.{◌≡◌, ℕ, ◌+◌, ◌-◌, ◌/◌, ◌%◌, ◌≤◌, ◌⊎◌, ◌*◌, ◌^◌, min, inl, inr, sym, ◌∙◌, ap, subst, arith, refl}
-use Rattle.text_pieces.proofs.ShareTexts.{share_of_one, All-more}
 use Rattle.db_writer.specs.Groups.{AreBlocks, IsUnwritten}
-use Rattle.db_writer.proofs.Blocks.{ends_all, ends_block, more}
+use Rattle.db_writer.proofs.Blocks.{All-more, ends_all, ends_block, more, share_of_one}
 use Rattle.db_writer.proofs.groups.cut_blocks.Goals as goal
 
 -- a group that doesn't begin a block begins behind the last row, and has none
