@@ -7,6 +7,8 @@ mod csv_source_calls;
 mod csv_writer_tables;
 mod file_list_files;
 mod report_text_reports;
+mod report_text_rows;
+mod reported;
 mod tables;
 mod taps;
 mod text_pieces_pieces;
