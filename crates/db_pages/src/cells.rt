@@ -182,16 +182,16 @@ impl Cells {
         requires room { 12 + 2 * length self.now + length (joined self.now) ≤ 4096 }
         ensures ok { OnOk result (into.new.items ≡ into.old.items ++ inner_page (four_bytes (number_of right)) self.now) }
     {
-        append(into, &head_of(INNER, &self.sizes, self.bytes.text()))?;
+        append(into, &head_of(INNER, &self.sizes, self.bytes.as_slice()))?;
         append(into, &number_bytes(right)?)?;
-        push_packed(into, INNER_HEAD, &self.sizes, self.bytes.text())
+        push_packed(into, INNER_HEAD, &self.sizes, self.bytes.as_slice())
     }
 
     /// Appends a leaf of the cells.
     pub(crate) fn push_leaf(&self, into: &mut Vec<u8>) -> Result<(), NoMemory>
         ensures ok { OnOk result (into.new.items ≡ into.old.items ++ leaf_page self.now) }
     {
-        append(into, &head_of(LEAF, &self.sizes, self.bytes.text()))?;
-        push_packed(into, LEAF_HEAD, &self.sizes, self.bytes.text())
+        append(into, &head_of(LEAF, &self.sizes, self.bytes.as_slice()))?;
+        push_packed(into, LEAF_HEAD, &self.sizes, self.bytes.as_slice())
     }
 }

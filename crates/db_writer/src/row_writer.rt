@@ -186,7 +186,7 @@ impl RowWriter {
         }
         self.bytes.truncate(0);
         push_record(&mut self.bytes, &self.types, &self.body)?;
-        self.leaves.push(self.next, self.bytes.text())
+        self.leaves.push(self.next, self.bytes.as_slice())
     }
 
     /// Ends the row under way. More rows than can be counted aren't taken.

@@ -1,8 +1,9 @@
 // A text under way.
-ghost use Rattle.std.specs.Prelude.{◌≡◌, ◌≤◌, ◌<◌, ◌+◌, ◌-◌, ◌++◌, ◌∷◌, [], length, slice_range, take, OnErr, OnOk};
+ghost use Rattle.std.specs.Prelude.{◌≡◌, ◌≤◌, ◌<◌, ◌-◌, ◌++◌, ◌∷◌, [], length, slice_range, take, OnErr, OnOk};
 ghost use Rattle.value_types.specs.Spelled.{IsSpelled};
 ghost use Rattle.value_types.specs.ValueText.{value_text};
 
+use crate::room::{grow, store};
 use csv_source::NoMemory;
 use std::alloc::Global;
 use std::marker::Model;
@@ -10,9 +11,6 @@ use value_types::{Value, put_value};
 
 /// So many bytes hold a mark before a value, the value, and what is written over behind it.
 pub const CELL_ROOM: usize = 33;
-
-/// So many bytes more are made ready where a text finds no room, so that most of its pieces find some.
-const AHEAD: usize = 4096;
 
 /// A text that grows by short pieces. They are stored over bytes that were made ready before, many at once: a piece that finds
 /// room takes a store, and no call.
@@ -34,33 +32,6 @@ impl Model for Draft {
     } };
 
     ghost invariant = { λ d. d.end ≤ length d.bytes.items };
-}
-
-/// Makes room for some bytes behind a place, and for more.
-#[cold]
-#[inline(never)]
-fn grow(bytes: &mut Vec<u8>, end: usize, count: usize) -> Result<(), NoMemory>
-    requires within { end ≤ length bytes.old.items }
-    ensures ok { OnOk result (end + count ≤ length bytes.new.items) }
-    ensures same { take end bytes.new.items ≡ take end bytes.old.items }
-    ensures within { end ≤ length bytes.new.items }
-{
-    let Some(least) = end.checked_add(count) else {
-        return Err(NoMemory);
-    };
-    let to = least.saturating_add(AHEAD).max(bytes.len());
-    bytes.resize(to, 0)?;
-    Ok(())
-}
-
-/// Stores bytes at a place.
-#[inline(always)]
-fn store(bytes: &mut Vec<u8>, end: usize, text: &[u8])
-    requires room { end + length text.now ≤ length bytes.old.items }
-    ensures text { take (end + length text.now) bytes.new.items ≡ take end bytes.old.items ++ text.now }
-    ensures same { length bytes.new.items ≡ length bytes.old.items }
-{
-    bytes[end..end + text.len()].copy_from_slice(text);
 }
 
 impl Draft {
@@ -218,14 +189,6 @@ impl Draft {
         ensures err { OnErr result (self.new.text ≡ self.old.text) }
     {
         self.append_by(bytes, from, end, 16)
-    }
-
-    /// The text so far.
-    #[inline(always)]
-    pub fn text(&self) -> &[u8]
-        ensures { result.now ≡ self.now.text }
-    {
-        &self.bytes[..self.end]
     }
 
     /// Appends another text, or nothing. 16 bytes are stored at once, or 64.

@@ -12,6 +12,7 @@ mod block;
 mod blocks;
 mod draft;
 mod pieces;
+mod room;
 mod rounds;
 mod row_lines;
 mod rowed;

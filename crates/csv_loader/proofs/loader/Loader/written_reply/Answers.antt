@@ -4,7 +4,7 @@ use Rattle.csv_writer.specs.Writable.{IsWritableRow}
 use Rattle.csv_loader.proofs.loader.Loader.written_reply.Goals as goal
 
 pub write_table-requires-clause-names : goal.write_table-requires-clause-names
-write_table-requires-clause-names g c κs within = c.requires.printable.names ∙ ap length (sym (c.table.ensures.types ∙ c.requires.printable.types))
+write_table-requires-clause-names g c = c.requires.printable.names ∙ ap length (sym (c.into_table.ensures.types ∙ c.requires.printable.types))
 
 pub write_table-requires-clause-writable : goal.write_table-requires-clause-writable
-write_table-requires-clause-writable g c κs within = subst (All IsWritableRow) (sym c.table.ensures.rows) c.requires.printable.values
+write_table-requires-clause-writable g c = subst (All IsWritableRow) (sym c.into_table.ensures.rows) c.requires.printable.values

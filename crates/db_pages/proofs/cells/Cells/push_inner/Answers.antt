@@ -10,7 +10,7 @@ use Rattle.db_pages.proofs.cells.Cells.push_inner.Goals as goal
 pub push_packed-requires-clause-room : goal.push_packed-requires-clause-room
 push_packed-requires-clause-room c =
     let m = measured c.self.inside.sizes.items c.self.inside.bytes.text c.args.self.now c.self.view_is c.self.invariant in
-    omega (arith, c.requires.room, m.0, m.1, ap length c.deref-2.ensures.value, ap length c.text-2.ensures)
+    omega (arith, c.requires.room, m.0, m.1, ap length c.deref-2.ensures.value, ap length c.as_slice-2.ensures)
 
 pub returns : goal.returns
 returns c =
@@ -20,10 +20,10 @@ returns c =
     let cells : List (List ℕ) = c.args.self.now in
     let right : List ℕ = four_bytes (number_of c.args.right) in
     let head : c.head_of.result ≡ page_head 5 (length cells) (length (joined cells)) =
-    c.head_of.ensures ∙ ap (λ xs. page_head 5 (length xs) (length c.text.result.now)) c.deref.ensures.value
-    ∙ ap (λ xs. page_head 5 (length sizes) (length xs)) c.text.ensures ∙ head_cut 5 sizes bytes cells c.self.view_is c.self.invariant in
-    let same : cut c.deref-2.result.now c.text-2.result.now ≡ cells =
-    ap (λ xs. cut xs c.text-2.result.now) c.deref-2.ensures.value ∙ ap (λ xs. cut sizes xs) c.text-2.ensures ∙ c.self.view_is in
+    c.head_of.ensures ∙ ap (λ xs. page_head 5 (length xs) (length c.as_slice.result.now)) c.deref.ensures.value
+    ∙ ap (λ xs. page_head 5 (length sizes) (length xs)) c.as_slice.ensures ∙ head_cut 5 sizes bytes cells c.self.view_is c.self.invariant in
+    let same : cut c.deref-2.result.now c.as_slice-2.result.now ≡ cells =
+    ap (λ xs. cut xs c.as_slice-2.result.now) c.deref-2.ensures.value ∙ ap (λ xs. cut sizes xs) c.as_slice-2.ensures ∙ c.self.view_is in
     record {
       ok = on_ok_weaker c.push_packed.result
           (λ out. three_behind old (page_head 5 (length cells) (length (joined cells))) right (packed 12 cells) c.append.new.into.items c.append-2.new.into.items _

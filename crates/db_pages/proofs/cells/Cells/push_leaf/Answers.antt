@@ -13,10 +13,10 @@ returns c =
     let bytes : List ℕ = c.self.inside.bytes.text in
     let cells : List (List ℕ) = c.args.self.now in
     let head : c.head_of.result ≡ page_head 13 (length cells) (length (joined cells)) =
-    c.head_of.ensures ∙ ap (λ xs. page_head 13 (length xs) (length c.text.result.now)) c.deref.ensures.value
-    ∙ ap (λ xs. page_head 13 (length sizes) (length xs)) c.text.ensures ∙ head_cut 13 sizes bytes cells c.self.view_is c.self.invariant in
-    let same : cut c.deref-2.result.now c.text-2.result.now ≡ cells =
-    ap (λ xs. cut xs c.text-2.result.now) c.deref-2.ensures.value ∙ ap (λ xs. cut sizes xs) c.text-2.ensures ∙ c.self.view_is in
+    c.head_of.ensures ∙ ap (λ xs. page_head 13 (length xs) (length c.as_slice.result.now)) c.deref.ensures.value
+    ∙ ap (λ xs. page_head 13 (length sizes) (length xs)) c.as_slice.ensures ∙ head_cut 13 sizes bytes cells c.self.view_is c.self.invariant in
+    let same : cut c.deref-2.result.now c.as_slice-2.result.now ≡ cells =
+    ap (λ xs. cut xs c.as_slice-2.result.now) c.deref-2.ensures.value ∙ ap (λ xs. cut sizes xs) c.as_slice-2.ensures ∙ c.self.view_is in
     record {
       ok = on_ok_weaker c.push_packed.result
           (λ out. two_behind old (page_head 13 (length cells) (length (joined cells))) (packed 8 cells) c.append.new.into.items _
