@@ -9,6 +9,7 @@ use csv_source::{Bytes, NoMemory};
 use load_options::{WordFault, WordRule};
 use report_text::{Mismatch, Outcome, make_text, render};
 use std::alloc::Global;
+use text_pieces::Pieces;
 
 #[derive(Clone, Copy)]
 enum Kind {
@@ -61,10 +62,15 @@ const REPORTS: [Report; 7] = [
     Report(Kind::FirstError, &[FOUND, REJECT]),
 ];
 
+/// The report of an outcome without rows.
+fn rendered(alloc: Global, kind: Kind) -> Result<Pieces, NoMemory> {
+    let outcome = outcome(alloc, kind)?;
+    render(alloc, &outcome)
+}
+
 /// Whether a report has its lines.
 fn is_rendered(alloc: Global, row: &Report) -> Result<bool, NoMemory> {
-    let outcome = outcome(alloc, row.0)?;
-    let text = render(alloc, &outcome)?;
+    let text = rendered(alloc, row.0)?;
     is_text(alloc, &text, &joined(alloc, row.1)?)
 }
 
