@@ -1,16 +1,14 @@
 -- Dates, times and numbers as the blocks in which they are printed.
 use Rattle.std.proofs.Common.{◌≡◌, ◌≢◌, ℕ, ◌+◌, ◌-◌, ◌*◌, ◌/◌, ◌%◌, ◌^◌, ◌<◌, ◌≤◌, Bool, true, false, refl, sym, ap, ◌∙◌, subst, arith, List, [], ◌∷◌, ◌++◌, length, length-append, append_assoc, codes, ℤ, pos, negsuc, unsigned_abs, ◌⊎◌, inl, inr, ltb-true}
-use Rattle.std.specs.Prelude.{int_lt}
-use Rattle.std.specs.Fmt.{decimal, signed_decimal}
+use Rattle.std.specs.Fmt.{decimal}
 use Rattle.std.specs.Simd.Lanes.{Each1}
-use Rattle.std.proofs.lemmas.Bool.{cases_Bool}
 use Rattle.std.proofs.lemmas.Fmt.{IsAscii-decimal}
 use Rattle.std.proofs.lemmas.Simd.{Each1-from_get_or}
 use Rattle.std.proofs.Math.Nat.{pow-le-pow_right, mul-le-mul_left, mul_comm}
 use Rattle.itoa.proofs.Decimal.{decimal_four}
 use Rattle.value_types.specs.ClockTime.{day_micros}
 use Rattle.value_types.specs.ValueText.{date_text, padded, time_text}
-use Rattle.value_types.specs.Words.{IsBlock, signed, word_of}
+use Rattle.value_types.specs.Words.{IsBlock, word_of}
 use Rattle.value_types.proofs.DateTexts.{IsShort, bytes_of_date, date_bytes}
 use Rattle.value_types.proofs.Padded.{glyph}
 use Rattle.value_types.proofs.PrintSteps.{whole_seconds, with_fraction}
@@ -127,24 +125,9 @@ fraction_block n first second p q r block clock some ep eq er es is =
 decimal_below : (n : ℕ) → n < 2 ^ 64 → Each1 (λ b. b < 256) (decimal n)
 decimal_below n small = Each1-from_get_or (λ b. b < 256) (decimal n) 0 (λ i lt. omega (arith, IsAscii-decimal n small i))
 
-signed_below : (minus : Bool) (digits : List ℕ) → Each1 (λ b. b < 256) digits → Each1 (λ b. b < 256) (signed minus digits)
-signed_below true digits each = (omega arith, each)
-signed_below false digits each = each
-
 each-append : (xs ys : List ℕ) → Each1 (λ b. b < 256) xs → Each1 (λ b. b < 256) ys → Each1 (λ b. b < 256) (xs ++ ys)
 each-append [] ys first second = second
 each-append (x ∷ xs) ys first second = (first.0, each-append xs ys first.1 second)
-
-pub signed-append : (minus : Bool) (xs ys : List ℕ) → signed minus xs ++ ys ≡ signed minus (xs ++ ys)
-signed-append true xs ys = refl
-signed-append false xs ys = refl
-
-pub signed-decimal : (z : ℤ) → signed (int_lt z (pos 0)) (decimal (unsigned_abs z)) ≡ signed_decimal z
-signed-decimal (pos n) = ap (λ t. signed t (decimal n)) (natural (cases_Bool (int_lt (pos n) (pos 0)))) where
-  natural : (int_lt (pos n) (pos 0) ≡ true) ⊎ (int_lt (pos n) (pos 0) ≡ false) → int_lt (pos n) (pos 0) ≡ false
-  natural (inl below) = absurd (let no : ⊥ = omega (arith, ltb-true n 0 below) in no)
-  natural (inr is) = is
-signed-decimal (negsuc n) = refl
 
 -- a number of more than four digits, the last four of them apart
 pub four_apart : (n : ℕ) → 10_000 ≤ n → n < 2 ^ 64 → decimal (n / 10_000) ++ padded 4 (n % 10_000) ≡ decimal n
@@ -176,11 +159,10 @@ eight_block n word small is =
     ap length (eight_written n small ∙ (λ i. four_written (n / 10_000) (omega arith) i ++ four_written (n % 10_000) (omega arith) i)) in
     record { is = record { short = omega (arith, eight); bytes = padded_below 8 n (omega arith); makes = is }; long = eight }
 
--- digits behind a sign
-pub signed_block : (minus : Bool) (n count word : ℕ) → n < 10_000_000 → word ≡ word_of (signed minus (decimal n)) → count ≡ length (signed minus (decimal n)) → count ≤ 8 →
-    IsBlockOf (signed minus (decimal n)) count word
-signed_block minus n count word small is long short = record {
-  is = record { short = omega (arith, long, short); bytes = signed_below minus (decimal n) (decimal_below n (omega arith)); makes = is };
+-- a number's digits alone
+pub digits_block : (n count word : ℕ) → n < 10_000_000 → word ≡ word_of (decimal n) → count ≡ length (decimal n) → count ≤ 7 → IsBlockOf (decimal n) count word
+digits_block n count word small is long short = record {
+  is = record { short = omega (arith, long, short); bytes = decimal_below n (omega arith); makes = is };
   long = sym long;
 }
 
@@ -192,19 +174,16 @@ moved behind count small few =
     let whole : behind * 256 ^ count % 2 ^ 128 ≡ behind * 256 ^ count = omega (arith, bound, small) in
     ap (λ p. behind * p % 2 ^ 128) (sym (power count few)) ∙ whole ∙ mul_comm behind (256 ^ count)
 
--- digits behind a sign, and a word of others behind them
-pub digits_block : (minus : Bool) (front : ℕ) (text : List ℕ) (more count word behind block : ℕ) → front < 10_000_000 → IsBlock text behind → length text ≡ more → more ≤ 8 → behind < 2 ^ 64 →
-    word ≡ word_of (signed minus (decimal front)) → count ≡ length (signed minus (decimal front)) → count ≤ 8 → block ≡ word + behind * 2 ^ (8 * count) % 2 ^ 128 →
-    IsBlockOf (signed minus (decimal front ++ text)) (count + more) block
-digits_block minus front text more count word behind block low is long few fits first counts short all =
-    let xs : List ℕ = signed minus (decimal front) in
-    let makes : block ≡ word_of (xs ++ text) =
-    all ∙ (λ i. first i + moved behind count fits short i) ∙ (λ i. word_of xs + 256 ^ counts i * is.makes i) ∙ sym (number-append xs text) in
-    subst (λ t. IsBlockOf t (count + more) block) (signed-append minus (decimal front) text) (record {
+-- digits, and a word of others behind them
+pub longer_block : (front : ℕ) (text : List ℕ) (more count word behind block : ℕ) → front < 10_000_000 → IsBlock text behind → length text ≡ more → more ≤ 8 → behind < 2 ^ 64 →
+    word ≡ word_of (decimal front) → count ≡ length (decimal front) → count ≤ 7 → block ≡ word + behind * 2 ^ (8 * count) % 2 ^ 128 →
+    IsBlockOf (decimal front ++ text) (count + more) block
+longer_block front text more count word behind block low is long few fits first counts short all =
+    let xs : List ℕ = decimal front in record {
       is = record {
         short = omega (arith, length-append xs text, long, few, counts, short);
-        bytes = each-append xs text (signed_below minus (decimal front) (decimal_below front (omega arith))) is.bytes;
-        makes = makes;
+        bytes = each-append xs text (decimal_below front (omega arith)) is.bytes;
+        makes = all ∙ (λ i. first i + moved behind count fits (omega arith) i) ∙ (λ i. word_of xs + 256 ^ counts i * is.makes i) ∙ sym (number-append xs text);
       };
       long = length-append xs text ∙ omega (arith, long, counts);
-    })
+    }

@@ -1,4 +1,4 @@
--- Digits that are printed in words: eight with zeros in front, those of a number alone, and those behind a sign.
+-- Digits that are printed in words: eight with zeros in front, and those of a number alone.
 use Rattle.std.proofs.Common.{◌≡◌, ℕ, zero, suc, ◌+◌, ◌-◌, ◌*◌, ◌/◌, ◌%◌, ◌^◌, ◌<◌, ◌≤◌, refl, sym, ap, ◌∙◌, subst, arith, List, [], ◌∷◌, ◌++◌, length, length-append, replicate, inl, inr}
 use Rattle.std.specs.Fmt.{decimal}
 use Rattle.std.specs.Simd.Lanes.{Each1}
@@ -149,13 +149,3 @@ last_bytes k word text few is =
 pub digits_alone : (width n c word : ℕ) → width ≤ 8 → c ≡ length (decimal n) → word ≡ word_of (padded width n) → word / 2 ^ (8 * (width - c)) ≡ word_of (decimal n)
 digits_alone width n c word few long is =
     last_bytes (width - c) word (decimal n) (omega arith) (is ∙ ap (λ k. word_of (zeros (width - k) ++ decimal n)) (sym long))
-
-zero_behind : (k : ℕ) (text : List ℕ) → zeros (suc k) ++ text ≡ zeros k ++ glyph 0 ∷ text
-zero_behind zero text = refl
-zero_behind (suc k) text = ap (λ xs. glyph 0 ∷ xs) (zero_behind k text)
-
--- and with a zero in front
-pub zero_and_digits : (n c word : ℕ) → c ≡ length (decimal n) → c ≤ 7 → word ≡ word_of (padded 8 n) → word / 2 ^ (8 * (7 - c)) ≡ word_of (glyph 0 ∷ decimal n)
-zero_and_digits n c word long few is =
-    let count : 8 - length (decimal n) ≡ suc (7 - c) = omega (arith, long, few) in
-    last_bytes (7 - c) word (glyph 0 ∷ decimal n) (omega arith) (is ∙ ap (λ k. word_of (zeros k ++ decimal n)) count ∙ ap word_of (zero_behind (7 - c) (decimal n)))

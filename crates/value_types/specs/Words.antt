@@ -22,10 +22,6 @@ pub record IsBlock (text : List ℕ) (block : ℕ) : Type 0 where
   pub bytes : Each1 (λ b. b < 256) text
   pub makes : block ≡ word_of text
 
--- digits behind their sign
-abbrev pub signed : Bool → List ℕ → List ℕ
-signed minus digits = if minus then byte "-" ∷ digits else digits
-
 -- what a digit is worth; no other byte is worth less than ten
 abbrev pub worth : ℕ → ℕ
 worth b = bit_xor b (byte "0")

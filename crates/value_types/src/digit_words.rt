@@ -2,7 +2,7 @@
 ghost use Rattle.std.specs.Prelude.{◌≡◌, ◌≤◌, ◌<◌, ◌+◌, ◌*◌, ◌/◌, ◌%◌, ◌++◌, ◌^◌, List, ℕ, length, take};
 ghost use Rattle.std.specs.Fmt.{decimal};
 ghost use Rattle.value_types.specs.ValueText.{padded};
-ghost use Rattle.value_types.specs.Words.{IsBlock, signed, word_of};
+ghost use Rattle.value_types.specs.Words.{IsBlock, word_of};
 
 use std::simd::prelude::*;
 
@@ -78,40 +78,28 @@ fn digit_count(number: u64) -> usize
         + reaches(number, 1_000_000)
 }
 
-/// A number of at most four digits behind its sign, and how many bytes they are.
+/// The digits of a number of at most four, and how many they are.
 #[inline(always)]
-pub(crate) fn few_signed_digits(minus: bool, number: u64) -> (u64, usize)
+pub(crate) fn few_digits(number: u64) -> (u64, usize)
     requires { number < 10_000 }
-    ensures value { result.0 ≡ word_of (signed minus (decimal number)) }
-    ensures count { result.1 ≡ length (signed minus (decimal number)) }
-    ensures short { result.1 ≤ 8 }
+    ensures value { result.0 ≡ word_of (decimal number) }
+    ensures count { result.1 ≡ length (decimal number) }
+    ensures short { result.1 ≤ 4 }
 {
     let count = few_digit_count(number);
-    let digits = four_digits(number) >> (8 * (4 - count));
-    if minus {
-        (digits * 256 + u64::from(b'-'), count + 1)
-    } else {
-        (digits, count)
-    }
+    (four_digits(number) >> (8 * (4 - count)), count)
 }
 
-/// A number of at most seven digits behind its sign, and how many bytes they are.
+/// The digits of a number of at most seven, and how many they are.
 #[inline(always)]
-pub(crate) fn signed_digits(minus: bool, number: u64) -> (u64, usize)
+pub(crate) fn digits(number: u64) -> (u64, usize)
     requires { number < 10_000_000 }
-    ensures value { result.0 ≡ word_of (signed minus (decimal number)) }
-    ensures count { result.1 ≡ length (signed minus (decimal number)) }
-    ensures short { result.1 ≤ 8 }
+    ensures value { result.0 ≡ word_of (decimal number) }
+    ensures count { result.1 ≡ length (decimal number) }
+    ensures short { result.1 ≤ 7 }
 {
     let count = digit_count(number);
-    let digits = eight_digits(number);
-    if minus {
-        // The zero before the first digit becomes the minus.
-        let behind_zero = digits >> (8 * (7 - count));
-        (behind_zero - u64::from(b'0' - b'-'), count + 1)
-    } else {
-        (digits >> (8 * (8 - count)), count)
-    }
+    (eight_digits(number) >> (8 * (8 - count)), count)
 }
 
 /// Two words as one.
