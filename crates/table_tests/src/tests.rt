@@ -18,4 +18,5 @@ mod value_types_fronts;
 mod value_types_lists;
 mod value_types_number_fronts;
 mod value_types_numbers;
+mod value_types_printing;
 mod value_types_values;

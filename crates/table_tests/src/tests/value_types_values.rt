@@ -1,4 +1,4 @@
-//! What texts are cast to, and what is printed for it.
+//! What texts are cast to.
 ghost use Rattle.std.specs.Prelude.{◌≢◌};
 ghost use Rattle.value_types.specs.declared.types.ColumnType.TheVariants.{Varchar};
 
@@ -7,7 +7,7 @@ use std::alloc::Global;
 use std::process::Abort;
 use value_types::{
     ColumnType, Names, Value, cast, cast_bigint, cast_boolean, cast_date, cast_time,
-    cast_timestamp, is_null, number_within, write_value,
+    cast_timestamp, is_null, number_within,
 };
 
 /// A text, and the value that it is cast to.
@@ -110,45 +110,6 @@ fn each_type_has_a_cast_of_its_own(rt: HostRuntime) {
     assert!(rt; cast_date(b"2024-02-29") == Some(19_782));
     assert!(rt; cast_time(b"10:00:00.5") == Some(36_000_500_000));
     assert!(rt; cast_timestamp(b"1970-01-02") == Some(86_400_000_000));
-}
-
-/// A type, a text of it, and what is printed for its value.
-struct Printed(ColumnType, &'static str, &'static str);
-
-const PRINTED: [Printed; 5] = [
-    Printed(ColumnType::Boolean, " TRUE ", "true"),
-    Printed(ColumnType::Bigint, "-007", "-7"),
-    Printed(ColumnType::Date, "0044-03-15", "0044-03-15"),
-    Printed(ColumnType::Time, "10:00:00.5", "10:00:00.500000"),
-    Printed(
-        ColumnType::Timestamp,
-        "1969-12-31T23:59:59.999999",
-        "1969-12-31 23:59:59.999999",
-    ),
-];
-
-/// Casts the text, prints its value, and compares.
-fn prints(rt: &impl Abort, ty: ColumnType, text: &[u8], want: &[u8], into: &mut Vec<u8>)
-    requires { ty ≢ Varchar }
-{
-    into.clear();
-    match cast(text, ty) {
-        Some(value) => {
-            let written = write_value(&value, into).is_ok();
-            assert!(rt; written);
-        }
-        None => assert!(rt; false),
-    }
-    assert!(rt; into.as_slice() == want);
-}
-
-#[test]
-fn what_was_cast_is_printed(rt: HostRuntime) {
-    let mut into = Vec::new(rt.alloc());
-    for row in &PRINTED {
-        assert!(rt; row.0 != ColumnType::Varchar);
-        prints(&rt, row.0, row.1.as_bytes(), row.2.as_bytes(), &mut into);
-    }
 }
 
 /// A text, a limit, and the number that the digits spell.

@@ -25,7 +25,7 @@ fn put_digits(front: u64, behind: (u64, usize), into: &mut [u8], at: usize) -> u
 /// Puts a number of more than fifteen digits at a place.
 fn put_many_digits(number: u64, into: &mut [u8], at: usize) -> usize
     requires many { (1_000_000_000_000_000 ≤ number) × (number ≤ 2 ^ 63) }
-    requires room { at + 31 ≤ length into.old }
+    requires room { at + 27 ≤ length into.old }
     ensures text { take result into.new ≡ take at into.old ++ decimal number }
     ensures within { result ≤ at + 19 }
     ensures same { length into.new ≡ length into.old }
@@ -40,7 +40,7 @@ fn put_many_digits(number: u64, into: &mut [u8], at: usize) -> usize
 #[inline(always)]
 fn put_long_number(number: u64, into: &mut [u8], at: usize) -> usize
     requires long { (10_000_000 ≤ number) × (number ≤ 2 ^ 63) }
-    requires room { at + 31 ≤ length into.old }
+    requires room { at + 27 ≤ length into.old }
     ensures text { take result into.new ≡ take at into.old ++ decimal number }
     ensures within { result ≤ at + 19 }
     ensures same { length into.new ≡ length into.old }
@@ -60,7 +60,7 @@ fn put_long_number(number: u64, into: &mut [u8], at: usize) -> usize
 #[inline(always)]
 fn put_magnitude(number: u64, into: &mut [u8], at: usize) -> usize
     requires most { number ≤ 2 ^ 63 }
-    requires room { at + 31 ≤ length into.old }
+    requires room { at + 27 ≤ length into.old }
     ensures text { take result into.new ≡ take at into.old ++ decimal number }
     ensures within { result ≤ at + 19 }
     ensures same { length into.new ≡ length into.old }

@@ -1,4 +1,4 @@
-use Rattle.std.proofs.Common.{◌≡◌, ◌∙◌, ◌%◌, ◌++◌, ℕ, ap, take, arith}
+use Rattle.std.proofs.Common.{◌∙◌, ◌%◌, ◌++◌, ℕ, ap, take, arith}
 use Rattle.value_types.specs.ValueText.{padded}
 use Rattle.value_types.proofs.PrintedBlocks.{eight_apart, eight_block, four_apart, four_block}
 use Rattle.value_types.proofs.printing.number.put_long_number.Goals as goal

@@ -1,4 +1,4 @@
-use Rattle.std.proofs.Common.{◌≡◌, ◌∙◌, ◌+◌, ◌++◌, ◌<◌, ◌⊎◌, ℕ, suc, ℤ, List, [], ◌∷◌, true, false, ap, sym, append_assoc, length, take, set, arith, inl, inr, ltb-true, pos, negsuc, to_z-of_z, unsigned_abs}
+use Rattle.std.proofs.Common.{◌≡◌, ◌∙◌, ◌+◌, ◌++◌, ◌<◌, ◌⊎◌, ℕ, suc, ℤ, List, [], ◌∷◌, true, false, ap, append_assoc, length, take, set, arith, inl, inr, ltb-true, pos, negsuc, to_z-of_z, unsigned_abs}
 use Rattle.std.specs.Fmt.{decimal, signed_decimal}
 use Rattle.std.specs.Prelude.{int_lt}
 use Rattle.std.proofs.lemmas.Bool.{cases_Bool}
