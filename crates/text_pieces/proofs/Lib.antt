@@ -1,4 +1,4 @@
-mod BlockSteps
+mod RoundSteps
 pub mod Fronts
 pub mod Lanes
 pub mod Ranges

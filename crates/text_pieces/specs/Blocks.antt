@@ -1,32 +1,46 @@
 -- Blocks of rows, whose lines are made at once.
-use Rattle.std.specs.Prelude.{◌≡◌, ◌≤◌, ◌<◌, ℕ, true, List, [], ◌∷◌, length, slice_range}
+use Rattle.std.specs.Prelude.{◌≡◌, ◌≤◌, ◌<◌, ℕ, true, List, All, length, slice_range, take}
 use Rattle.std.specs.List.{concat}
 use Rattle.text_pieces.specs.declared.block.Block.{Block}
+use Rattle.text_pieces.specs.declared.round.Round.{Round}
+use Rattle.text_pieces.specs.declared.desk.Desk.{Desk}
+use Rattle.text_pieces.specs.declared.desks.Desks.{Desks}
 use Rattle.text_pieces.specs.declared.rounds.Rounds.{Rounds}
-
--- blocks of rows, the first from `from` on, each from where the one before ends, and the last up to `to`
-abbrev pub AreBlocks : ℕ → List Block → ℕ → Type 0
-AreBlocks from [] to = from ≡ to
-AreBlocks from (block ∷ blocks) to = (block.from ≡ from) × (from ≤ block.to) × AreBlocks block.to blocks to
-
--- the block's rows are some of these
-abbrev pub IsWithin : List (List ℕ) → Block → Type 0
-IsWithin lines block = (block.from ≤ block.to) × (block.to ≤ length lines)
-
--- the lines of a block's rows
-abbrev pub lines_of : List (List ℕ) → Block → List ℕ
-lines_of lines block = concat (slice_range lines block.from block.to)
 
 -- the block has the lines of its rows, unless it isn't made
 abbrev pub HasLines : List (List ℕ) → Block → Type 0
-HasLines lines block = block.made ≡ true → block.text.text ≡ lines_of lines block
+HasLines lines block = block.made ≡ true → block.text.text ≡ concat (slice_range lines block.from block.to)
 
--- a block of the same rows that has their lines, unless memory was wanting
-pub record MakesLines (lines : List (List ℕ)) (old new : Block) : Type 0 where
-  pub from : new.from ≡ old.from
-  pub to : new.to ≡ old.to
-  pub lines_are : HasLines lines new
+-- the block has the lines of these rows
+abbrev pub IsMadeOf : ℕ → ℕ → Block → Type 0
+IsMadeOf from to block = (block.made ≡ true) × (block.from ≡ from) × (block.to ≡ to)
 
--- each round takes some rows
+-- the round's rows are some of these, and some are made at once
+abbrev pub IsRound : List (List ℕ) → Round → Type 0
+IsRound lines round = (round.from ≤ round.to) × (round.to ≤ length lines) × (0 < round.at_once)
+
+-- each block that the desk used has the lines of its rows
+abbrev pub HasWork : List (List ℕ) → Desk → Type 0
+HasWork lines desk = (desk.used ≤ length desk.blocks.items) × All (HasLines lines) (take desk.used desk.blocks.items)
+
+-- the same at each desk
+abbrev pub AreDesks : List (List ℕ) → Desks → Type 0
+AreDesks lines desks = HasWork lines desks.own × All (HasWork lines) desks.others.items
+
+-- no block has the lines of these rows
+abbrev pub HasNone : ℕ → ℕ → Desk → Type 0
+HasNone from to desk = All (λ block. ¬ IsMadeOf from to block) (take desk.used desk.blocks.items)
+
+abbrev pub HaveNone : ℕ → ℕ → Desks → Type 0
+HaveNone from to desks = HasNone from to desks.own × All (HasNone from to) desks.others.items
+
+-- nothing is made yet
+abbrev pub IsIdle : Desk → Type 0
+IsIdle desk = desk.used ≡ 0
+
+abbrev pub AreIdle : Desks → Type 0
+AreIdle desks = IsIdle desks.own × All IsIdle desks.others.items
+
+-- each round takes some rows, and nothing is made yet
 abbrev pub IsReady : Rounds → Type 0
-IsReady rounds = (0 < length rounds.blocks.items) × (0 < rounds.at_once)
+IsReady rounds = (0 < rounds.at_once) × AreIdle rounds.ready × AreIdle rounds.making

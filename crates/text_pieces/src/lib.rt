@@ -9,10 +9,12 @@
 #![tactic(auto)]
 
 mod block;
-mod blocks;
+mod desk;
+mod desks;
 mod draft;
 mod pieces;
 mod room;
+mod round;
 mod rounds;
 mod row_lines;
 mod rowed;

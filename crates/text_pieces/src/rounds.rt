@@ -1,55 +1,62 @@
 // Rows that are made and written round by round.
-ghost use Rattle.std.specs.Prelude.{◌≡◌, ◌<◌, ◌≤◌, drop, length, All, IfOk};
+ghost use Rattle.std.specs.Prelude.{◌≡◌, ◌<◌, ◌≤◌, drop, length, IfOk};
 ghost use Rattle.std.specs.List.{concat};
-ghost use Rattle.text_pieces.specs.Blocks.{AreBlocks, HasLines, IsReady, IsWithin};
+ghost use Rattle.text_pieces.specs.Blocks.{IsReady};
 ghost use Rattle.text_pieces.specs.Writes.{Writes};
 
-use crate::block::Block;
-use crate::blocks::{hand_out, make_blocks, new_blocks, write_blocks};
+use crate::desks::Desks;
+use crate::round::Round;
 use crate::row_lines::RowLines;
 use crate::workers::Workers;
 use csv_source::{Failed, NoMemory, Sink};
-use std::alloc::Global;
+use std::mem;
 use std::thread::Threads;
 
-/// About so many bytes of lines a worker makes at once: with less, the starts of threads would show.
-const BLOCK_BYTES: usize = 4 << 20;
+/// About so many bytes of lines are made at once: with less, the draws and the writes would show, and with more, the last worker
+/// of a round would be waited for longer.
+const BLOCK_BYTES: usize = 1 << 20;
 
-/// At most so many rows a worker makes at once.
+/// At most so many rows are made at once, however short their lines: a line may be longer than those before.
 const BLOCK_ROWS: usize = 65_536;
 
-/// A block for each worker that is of use, and how many rows are made at once in each. They are used again from round to round.
-/// How many bytes a row takes shows in the lines that were made: rounds begin with few rows and grow up to blocks of some size.
+/// So many blocks a worker has a round, so that one that is slow makes fewer, and the others more.
+const SHARE: usize = 4;
+
+/// The round that is written, the next one, which is made meanwhile, and how many of its rows are made at once. How many bytes a
+/// row takes shows in the lines that were made: rounds begin with few rows and grow up to blocks of some size.
 #[derive(Drop)]
 pub(crate) struct Rounds {
-    alloc: Global,
     at_once: usize,
-    blocks: Vec<Block>,
+    ready: Desks,
+    making: Desks,
 }
 
-/// How many of some rows a worker makes at once in the first round, where so many workers share them.
+/// How many of some rows are made at once in the first round, where so many workers share them.
 fn at_once<T: RowLines>(rows: &T, workers: usize) -> usize
     ensures { 0 < result }
 {
     let most = (BLOCK_BYTES / rows.room(1).max(1)).min(BLOCK_ROWS);
-    let few = (most / 8).max(1);
+    let few = (most / 4).max(1);
     rows.count().div_ceil(workers.max(1)).clamp(1, few)
 }
 
-/// The bytes of the longest of some blocks, and no end where the lines of one couldn't be made.
-fn longest(blocks: &[Block]) -> usize {
-    let mut most = 0;
-    for block in blocks {
-        if !block.made {
-            return usize::MAX;
-        }
-        most = block.text.len().max(most);
+/// How many rows are made at once in the next round: more where all blocks were short, and fewer where one was long.
+fn fit(at_once: usize, longest: usize) -> usize
+    requires { 0 < at_once }
+    ensures { 0 < result }
+{
+    if longest > BLOCK_BYTES {
+        return (at_once / 2).max(1);
     }
-    most
+    if longest > BLOCK_BYTES / 2 {
+        return at_once;
+    }
+    at_once.saturating_mul(2).min(BLOCK_ROWS)
 }
 
 impl Rounds {
-    /// Rounds for these rows. As many workers as are of use have a block, each with the room of its rows.
+    /// Rounds for these rows. As many workers as are of use have a desk, each with blocks for a whole round: where one thread alone
+    /// gets on, it makes all.
     pub(crate) fn new<R, T: RowLines>(
         workers: &Workers<'_, R>,
         rows: &T,
@@ -59,51 +66,31 @@ impl Rounds {
         let threads = workers.threads as usize;
         let at_once = at_once(rows, threads);
         let count = rows.count().div_ceil(at_once).min(threads).max(1);
-        let share = rows.count().div_ceil(count);
-        let room = rows.room(share).min(BLOCK_BYTES);
-        let blocks = new_blocks(workers.alloc, count, room)?;
+        let blocks = count.saturating_mul(SHARE);
         Ok(Rounds {
-            alloc: workers.alloc,
             at_once,
-            blocks,
+            ready: Desks::new(workers.alloc, count, blocks)?,
+            making: Desks::new(workers.alloc, count, blocks)?,
         })
     }
 
-    /// Makes the lines of the next rows from `from` on, and answers the first row that is left.
-    fn make_next<R: Threads + Sync, T: RowLines + Sync>(
-        &mut self,
-        rt: &R,
-        rows: &T,
-        from: usize,
-    ) -> usize
-        requires ready { IsReady self.old }
-        requires some { from < length (T.lines rows.now) }
-        ensures ready { IsReady self.new }
-        ensures some { from < result }
-        ensures within { result ≤ length (T.lines rows.now) }
-        ensures blocks { AreBlocks from self.new.blocks.items result }
-        ensures lines { All (HasLines (T.lines rows.now)) self.new.blocks.items }
+    /// The round behind the one that is ready.
+    fn next_round(&self, count: usize) -> Round
+        requires ready { 0 < self.now.at_once }
+        requires within { self.now.ready.round.to ≤ count }
+        ensures from { result.from ≡ self.now.ready.round.to }
+        ensures ordered { result.from ≤ result.to }
+        ensures within { result.to ≤ count }
+        ensures some { result.from < count → result.from < result.to }
+        ensures at_once { result.at_once ≡ self.now.at_once }
     {
-        let blocks = self.blocks.as_mut_slice();
-        let to = hand_out(blocks, from, rows.count(), self.at_once);
-        make_blocks(rt, self.alloc, rows, blocks);
-        to
+        let from = self.ready.round.to;
+        let blocks = self.making.workers().saturating_mul(SHARE);
+        let rows = self.at_once.saturating_mul(blocks).max(1);
+        Round::new(from, from.saturating_add(rows).min(count), self.at_once)
     }
 
-    /// Takes more rows to a round where all blocks were short, and fewer where one was long.
-    fn fit(&mut self)
-        requires ready { IsReady self.old }
-        ensures ready { IsReady self.new }
-    {
-        let longest = longest(&self.blocks);
-        if longest > BLOCK_BYTES {
-            self.at_once = (self.at_once / 2).max(1);
-        } else if longest <= BLOCK_BYTES / 2 {
-            self.at_once = self.at_once.saturating_mul(2).min(BLOCK_ROWS);
-        }
-    }
-
-    /// Writes the lines of all rows from `from` on.
+    /// Writes the lines of all rows from `from` on. The first pass writes none: it makes the first round.
     pub(crate) fn write_from<R: Threads + Sync, T: RowLines + Sync, K: Sink>(
         &mut self,
         rt: &R,
@@ -116,12 +103,12 @@ impl Rounds {
         ensures { Writes (K.taken sink.old) (K.taken sink.new) (K.faults sink.old) (K.faults sink.new) result (concat (drop from (T.lines rows.now))) }
     {
         let count = rows.count();
-        let mut at = from;
-        while at < count {
-            let to = self.make_next(rt, rows, at);
-            write_blocks(rows, &self.blocks, sink)?;
-            self.fit();
-            at = to;
+        self.ready.round = Round::new(from, from, 1);
+        while self.ready.round.from < count {
+            self.making.round = self.next_round(count);
+            self.making.make_beside(rt, rows, &self.ready, sink)?;
+            mem::swap(&mut self.ready, &mut self.making);
+            self.at_once = fit(self.at_once, self.ready.longest());
         }
         Ok(())
     }

@@ -1,19 +1,22 @@
-use Rattle.std.proofs.Common.{◌≤◌, ◌-◌, drop, length}
+use Rattle.std.proofs.Common.{◌+◌, ◌<◌, ◌-◌, drop}
 use Rattle.std.specs.List.{concat}
-use Rattle.text_pieces.specs.Blocks.{IsReady}
+use Rattle.text_pieces.specs.Blocks.{AreDesks, IsRound}
 use Rattle.text_pieces.specs.Writes.{HasWritten}
 use Rattle.text_pieces.proofs.rounds.Rounds.write_from.Given as goal
 
--- the lines of the rows before `at` are written
-abbrev pub invariant-loop-at : goal.invariant-loop-at
-invariant-loop-at g l =
+-- the lines of the rows before the round that is ready are written
+abbrev pub invariant-loop-self : goal.invariant-loop-self
+invariant-loop-self g l =
     let lines = g.T.RowLines.lines l.rows in
     record {
-      ready : IsReady l.self;
-      within : l.at ≤ length lines;
+      some : 0 < l.self.at_once;
+      round : IsRound lines l.self.ready.round;
+      ready : AreDesks lines l.self.ready;
+      making : AreDesks lines l.self.making;
       text : HasWritten (g.K.Sink.taken l.fn.sink) (g.K.Sink.taken l.sink) (g.K.Sink.faults l.fn.sink) (g.K.Sink.faults l.sink)
-          (concat (drop l.fn.from lines)) (concat (drop l.at lines));
+          (concat (drop l.fn.from lines)) (concat (drop l.self.ready.round.from lines));
     }
 
-abbrev pub decreases-loop-at : goal.decreases-loop-at
-decreases-loop-at g l = l.count - l.at
+-- the last round ends at the last row
+abbrev pub decreases-loop-self : goal.decreases-loop-self
+decreases-loop-self g l = (l.count - l.self.ready.round.from) + (l.count - l.self.ready.round.to)
