@@ -147,7 +147,10 @@ impl Desks {
                 requires { (0 < length others.now) × IsRound (T.lines rows.now) round.now }
                 ensures { All (HasWork (T.lines rows.entry.now)) others.exit.now }
             { work_all(rt, rows, round, others) },
-            &mut || {
+            &mut ||
+                requires { AreDesks (T.lines rows.now) ready.now × IsRound (T.lines rows.now) ready.now.round × IsRound (T.lines rows.now) round.now }
+                ensures { HasWork (T.lines rows.entry.now) own.exit.now × Writes (K.taken sink.entry.now) (K.taken sink.exit.now) (K.faults sink.entry.now) (K.faults sink.exit.now) result (concat (slice_range (T.lines rows.entry.now) ready.entry.now.round.from ready.entry.now.round.to)) }
+            {
                 let written = ready.write(rows, sink);
                 own.work(rows, round);
                 written

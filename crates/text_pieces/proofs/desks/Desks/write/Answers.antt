@@ -11,7 +11,7 @@ returns-in_err-write_rows g c =
     let lines = g.T.RowLines.lines c.args.rows.now in
     let round = c.args.self.now.round in
     let before = c.loop-at.invariant in
-    told_on c.from_residual.result _ (concat (slice_range lines c.end-end.result round.to)) c.from_residual.ensures.0 before.text
+    told_on {whole = concat (slice_range lines round.from round.to)} {xs = concat (slice_range lines c.loop-at.at c.end-end.result)} c.from_residual.result _ (concat (slice_range lines c.end-end.result round.to)) c.from_residual.ensures.0 before.text
     (round-split lines c.loop-at.at c.end-end.result round.to (omega (arith, c.end-end.ensures.some)) c.end-end.ensures.within) c.in_err-write_rows.ensures
 
 pub loop-at-preserved : goal.loop-at-preserved
@@ -22,7 +22,7 @@ loop-at-preserved g c =
     record {
       after = omega (arith, before.after, c.end-end.ensures.some);
       within = c.end-end.ensures.within;
-      text = more_written _ (concat (slice_range lines c.end-end.result round.to)) before.text
+      text = more_written {whole = concat (slice_range lines round.from round.to)} {xs = concat (slice_range lines c.loop-at.at c.end-end.result)} _ (concat (slice_range lines c.end-end.result round.to)) before.text
           (round-split lines c.loop-at.at c.end-end.result round.to (omega (arith, c.end-end.ensures.some)) c.end-end.ensures.within) c.in_ok-write_rows.ensures;
     }
 
