@@ -8,6 +8,7 @@
 //! It serves the crates above alone.
 #![tactic(auto)]
 
+mod beside;
 mod block;
 mod desk;
 mod desks;

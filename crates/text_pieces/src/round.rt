@@ -1,5 +1,5 @@
 // Rows that workers draw.
-ghost use Rattle.std.specs.Prelude.{◌≡◌, ◌<◌, ◌≤◌, IfSome};
+ghost use Rattle.std.specs.Prelude.{◌≡◌, ◌<◌, ◌≤◌, ◌↔◌, IfSome, IsTrue};
 
 use std::sync::atomic::{AtomicU64, Ordering};
 
@@ -29,7 +29,9 @@ impl Round {
     }
 
     /// Whether it has no rows.
-    pub(crate) fn is_empty(&self) -> bool {
+    pub(crate) fn is_empty(&self) -> bool
+        ensures { IsTrue result ↔ self.now.to ≤ self.now.from }
+    {
         self.from >= self.to
     }
 

@@ -19,6 +19,9 @@ const BLOCK_BYTES: usize = 1 << 20;
 /// At most so many rows are made at once, however short their lines: a line may be longer than those before.
 const BLOCK_ROWS: usize = 65_536;
 
+/// A first round's blocks are so many times smaller, so that the writing begins soon.
+const FIRST: usize = 4;
+
 /// So many blocks a worker has a round, so that one that is slow makes fewer, and the others more.
 const SHARE: usize = 4;
 
@@ -36,7 +39,7 @@ fn at_once<T: RowLines>(rows: &T, workers: usize) -> usize
     ensures { 0 < result }
 {
     let most = (BLOCK_BYTES / rows.room(1).max(1)).min(BLOCK_ROWS);
-    let few = (most / 4).max(1);
+    let few = (most / FIRST).max(1);
     rows.count().div_ceil(workers.max(1)).clamp(1, few)
 }
 
