@@ -2,9 +2,10 @@
 //!
 //! A text in pieces is one text without a copy: its pieces are written one after another. Short pieces are joined as they
 //! come, so that a short text is written at once. A text of rows never stands whole in memory: its lines are made block by
-//! block, by workers side by side, in buffers that were had before, and written in order. What writers of texts share stands
-//! here too: a text under way, whose values and runs are stored in room that was made ready before; runs of bytes, found by
-//! lanes; and writes that want no memory.
+//! block, round by round, by workers that draw the blocks of the next round while this one is written in order. The buffers are
+//! used again; where one finds no memory, its rows are written straight. What writers of texts share stands here too: a text
+//! under way, whose values and runs are stored in room that was made ready before; runs of bytes, found by lanes; and writes
+//! that want no memory.
 //! It serves the crates above alone.
 #![tactic(auto)]
 

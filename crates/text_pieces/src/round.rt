@@ -51,7 +51,9 @@ impl Round {
         ensures { IfSome result (λ rows. (rows.0 < rows.1) × (rows.1 ≤ self.now.to)) }
     {
         let number = self.drawn.fetch_add(1, Ordering::SeqCst) as usize;
-        let from = self.from.saturating_add(number.saturating_mul(self.at_once));
+        let from = self
+            .from
+            .saturating_add(number.saturating_mul(self.at_once));
         if from >= self.to {
             return None;
         }

@@ -12,18 +12,21 @@ use csv_source::{Failed, NoMemory, Sink};
 use std::mem;
 use std::thread::Threads;
 
-/// About so many bytes of lines are made at once: with less, the draws and the writes would show, and with more, the last worker
-/// of a round would be waited for longer.
+/// About so many bytes of lines a block has: with less, the draws and the writes would show, and with more, the last worker of a
+/// round would be waited for longer.
 const BLOCK_BYTES: usize = 1 << 20;
 
-/// At most so many rows are made at once, however short their lines: a line may be longer than those before.
+/// At most so many rows a block has, however short their lines: those of the rows behind may be longer.
 const BLOCK_ROWS: usize = 65_536;
 
-/// A first round's blocks are so many times smaller, so that the writing begins soon.
+/// The blocks of the first round are so many times smaller, so that the writing begins soon.
 const FIRST: usize = 4;
 
-/// So many blocks a worker has a round, so that one that is slow makes fewer, and the others more.
+/// So many blocks a round has for each worker, so that one that is slow makes fewer of them, and the others more.
 const SHARE: usize = 4;
+
+/// So many blocks a desk has: half of the workers can make a whole round, and what they hold grows with their number alone.
+const BLOCKS: usize = 2 * SHARE;
 
 /// The round that is written, the next one, which is made meanwhile, and how many of its rows are made at once. How many bytes a
 /// row takes shows in the lines that were made: rounds begin with few rows and grow up to blocks of some size.
@@ -58,8 +61,7 @@ fn fit(at_once: usize, longest: usize) -> usize
 }
 
 impl Rounds {
-    /// Rounds for these rows. As many workers as are of use have a desk, each with blocks for a whole round: where one thread alone
-    /// gets on, it makes all.
+    /// Rounds for these rows. As many workers as are of use have a desk.
     pub(crate) fn new<R, T: RowLines>(
         workers: &Workers<'_, R>,
         rows: &T,
@@ -69,11 +71,10 @@ impl Rounds {
         let threads = workers.threads as usize;
         let at_once = at_once(rows, threads);
         let count = rows.count().div_ceil(at_once).min(threads).max(1);
-        let blocks = count.saturating_mul(SHARE);
         Ok(Rounds {
             at_once,
-            ready: Desks::new(workers.alloc, count, blocks)?,
-            making: Desks::new(workers.alloc, count, blocks)?,
+            ready: Desks::new(workers.alloc, count, BLOCKS)?,
+            making: Desks::new(workers.alloc, count, BLOCKS)?,
         })
     }
 

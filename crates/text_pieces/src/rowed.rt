@@ -20,7 +20,8 @@ use std::thread::Threads;
 const SHORT: usize = 65_536;
 
 /// A text whose rows are made as they are written: a head, the lines of rows, and a tail. The lines are made block by block in
-/// buffers that are had before, so that writing wants no memory and the text never stands whole in it.
+/// buffers that are used again, so that the text never stands whole in memory. Rows whose buffer finds none are written straight,
+/// so that writing never fails for want of it.
 #[derive(Drop)]
 pub struct RowedText<T: RowLines> {
     head: Vec<u8>,
@@ -54,7 +55,7 @@ fn join<T: RowLines>(head: Vec<u8>, rows: &T, tail: &[u8]) -> Result<Vec<u8>, No
 }
 
 impl<T: RowLines + Sync + Drop> RowedText<T> {
-    /// A text of these parts, whose lines at most so many threads make. All memory that writing takes is had here.
+    /// A text of these parts, whose lines at most so many threads make. The memory that writing can't do without is had here.
     pub fn new<R>(
         workers: &Workers<'_, R>,
         head: Vec<u8>,
