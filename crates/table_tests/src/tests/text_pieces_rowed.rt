@@ -69,13 +69,18 @@ fn text_of<R>(
     RowedText::new(workers, head, rows, b">".to_vec(workers.alloc)?)
 }
 
-/// What is wanted of no letters up to seven.
-const WANTED: [(&[u8], &[u8]); 5] = [
+/// What is wanted of no letters up to seven, and of more than one round has.
+const WANTED: [(&[u8], &[u8]); 7] = [
     (b"", b"<>"),
     (b"a", b"<a>"),
     (b"ab", b"<ab>"),
     (b"abcde", b"<abcde>"),
     (b"abcdefg", b"<abcdefg>"),
+    (b"abcdefghijk", b"<abcdefghijk>"),
+    (
+        b"abcdefghijklmnopqrstuvwxyz",
+        b"<abcdefghijklmnopqrstuvwxyz>",
+    ),
 ];
 
 #[test]
@@ -129,9 +134,12 @@ fn few_rows_want_their_memory_before_the_first_byte(rt: HostRuntime) -> Result<(
     Ok(())
 }
 
-/// The bytes that are taken before each write of a head, of five rows in two rounds of two blocks, and of a tail: the rows of
-/// the second round are two to a block, or one where those of the first couldn't be made.
-const TAKEN: [(bool, &[usize]); 2] = [(false, &[0, 1, 2, 3, 5, 6]), (true, &[0, 1, 2, 3, 4, 5, 6])];
+/// The bytes that are taken before each write of a head, of eleven rows in a round of eight blocks and another, and of a tail: the
+/// rows of the second round are two to a block, or one where those of the first couldn't be made.
+const TAKEN: [(bool, &[usize]); 2] = [
+    (false, &[0, 1, 2, 3, 4, 5, 6, 7, 8, 9, 11, 12]),
+    (true, &[0, 1, 2, 3, 4, 5, 6, 7, 8, 9, 10, 11, 12]),
+];
 
 #[test]
 fn a_write_that_fails_leaves_those_before(rt: HostRuntime) -> Result<(), NoMemory> {
@@ -141,7 +149,7 @@ fn a_write_that_fails_leaves_those_before(rt: HostRuntime) -> Result<(), NoMemor
         alloc,
         threads: 2,
     };
-    let (letters, wanted) = WANTED[3];
+    let (letters, wanted) = WANTED[5];
     for (refused, lengths) in TAKEN {
         for number in 0..lengths.len() {
             let mut sink = MemorySink::with_room(alloc, 100)?;
