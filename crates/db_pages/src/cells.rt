@@ -2,7 +2,7 @@
 ghost use Rattle.std.specs.Prelude.{◌≡◌, ◌==◌, ◌+◌, ◌*◌, ◌≤◌, ◌<◌, ◌++◌, [], ◌∷◌, length, nat_le, OnOk};
 ghost use Rattle.db_records.specs.Cell.{cell_bytes};
 ghost use Rattle.db_records.specs.Page.{joined, leaf_page};
-ghost use Rattle.db_records.specs.Record.{record_of};
+ghost use Rattle.db_records.specs.Record.{record_of, IsShortRecord};
 ghost use Rattle.db_records.specs.Varint.{varint};
 ghost use Rattle.csv_source.specs.Lists.{is_empty};
 ghost use Rattle.db_pages.specs.Laid.{long_cell};
@@ -126,8 +126,7 @@ impl Cells {
         types: &Draft,
         body: &Draft,
     ) -> Result<(), NoMemory>
-        requires few { length types.now.text < 127 }
-        requires short { length types.now.text + length body.now.text < 4061 }
+        requires short { IsShortRecord types.now.text body.now.text }
         requires size { size ≡ length (cell_bytes rowid (record_of types.now.text body.now.text)) }
         requires room { 8 + 2 * (length self.old + 1) + length (joined self.old) + size ≤ 4096 }
         ensures ok { OnOk result (self.new ≡ self.old ++ cell_bytes rowid (record_of types.now.text body.now.text) ∷ []) }

@@ -1,7 +1,7 @@
 // Rows in leaves.
 ghost use Rattle.std.specs.Prelude.{◌≡◌, ◌==◌, ◌+◌, ◌*◌, ◌%◌, ◌<◌, ◌≤◌, [], ◌∷◌, if◌then◌else◌, length, IfOk, OnOk};
 ghost use Rattle.db_records.specs.Page.{joined};
-ghost use Rattle.db_records.specs.Record.{record_of};
+ghost use Rattle.db_records.specs.Record.{record_of, IsShortRecord};
 ghost use Rattle.db_pages.specs.Grown.{closed, filled, holds_at};
 ghost use Rattle.db_pages.specs.Laid.{ended, finished, next_place, roomy, with_long, with_rows, with_short};
 
@@ -139,8 +139,7 @@ impl Leaves {
     /// Appends a row whose record is made of few types and some values, and stays whole.
     #[inline(always)]
     fn push_short_values(&mut self, rowid: u64, types: &Draft, body: &Draft) -> Result<(), NoMemory>
-        requires few { length types.now.text < 127 }
-        requires short { length types.now.text + length body.now.text < 4061 }
+        requires short { IsShortRecord types.now.text body.now.text }
         ensures ok { OnOk result (self.new ≡ record self.old { laid = with_short self.old.base self.old.laid rowid (record_of types.now.text body.now.text) }) }
     {
         let size = values_cell_len(rowid, types, body);
@@ -153,8 +152,7 @@ impl Leaves {
     /// Appends a row by the few types and the values of its record, which stays whole.
     #[inline(always)]
     pub fn push_values(&mut self, rowid: u64, types: &Draft, body: &Draft) -> Result<(), NoMemory>
-        requires few { length types.now.text < 127 }
-        requires short { length types.now.text + length body.now.text < 4061 }
+        requires short { IsShortRecord types.now.text body.now.text }
         ensures ok { OnOk result (self.new ≡ record self.old { laid = with_rows self.old.base self.old.laid rowid (record_of types.now.text body.now.text ∷ []) }) }
     {
         self.push_short_values(rowid, types, body)?;

@@ -1,7 +1,7 @@
 // The cells of rows.
 ghost use Rattle.std.specs.Prelude.{◌≡◌, ◌+◌, ◌≤◌, ◌<◌, ◌++◌, [], ◌∷◌, length, OnOk};
 ghost use Rattle.db_records.specs.Cell.{cell_bytes};
-ghost use Rattle.db_records.specs.Record.{record_of};
+ghost use Rattle.db_records.specs.Record.{record_of, IsShortRecord};
 ghost use Rattle.db_records.specs.Varint.{varint};
 
 use crate::varint::{four_digits, push_varint, three_digits, varint_len};
@@ -47,8 +47,7 @@ pub fn push_cell(into: &mut Draft, rowid: u64, row: &[u8]) -> Result<(), NoMemor
 /// How many bytes the cell of a row has whose record is made of few types and some values.
 #[inline(always)]
 pub fn values_cell_len(rowid: u64, types: &Draft, body: &Draft) -> usize
-    requires few { length types.now.text < 127 }
-    requires short { length types.now.text + length body.now.text < 4061 }
+    requires short { IsShortRecord types.now.text body.now.text }
     ensures value { result ≡ length (cell_bytes rowid (record_of types.now.text body.now.text)) }
     ensures within { result ≤ 4077 }
 {
@@ -82,8 +81,7 @@ pub fn push_values_cell(
     types: &Draft,
     body: &Draft,
 ) -> Result<(), NoMemory>
-    requires few { length types.now.text < 127 }
-    requires short { length types.now.text + length body.now.text < 4061 }
+    requires short { IsShortRecord types.now.text body.now.text }
     ensures ok { OnOk result (into.new.text ≡ into.old.text ++ cell_bytes rowid (record_of types.now.text body.now.text)) }
 {
     let len = 1 + types.len() + body.len();

@@ -11,7 +11,7 @@ returns c =
     let before : Filled = c.args.self.now in
     let row : List ℕ = record_of c.args.types.now.text c.args.body.now.text in
     let row-is : with_short before.base before.laid c.args.rowid row ≡ with_row before.base before.laid c.args.rowid row =
-    sym (short-row before.base before.laid c.args.rowid c.args.types.now.text c.args.body.now.text c.requires.few c.requires.short) in
+    sym (short-row before.base before.laid c.args.rowid c.args.types.now.text c.args.body.now.text c.requires.short) in
     let laid : c.push_short_values.new.self ≡ record { base = before.base; laid = with_row before.base before.laid c.args.rowid row } =
     c.in_ok-push_short_values.ensures.ok ∙ ap (λ (l : Laid). record { base = before.base; laid = l }) row-is in
     record {
