@@ -183,10 +183,6 @@ pub on_err : {T E Q : Type 0} (r : Result T E) → Q → OnErr r Q
 on_err (Ok x) q = tt
 on_err (Err e) q = q
 
-pub on_ok : {T E P Q : Type 0} (r : Result T E) → (P → Q) → OnOk r P → OnOk r Q
-on_ok (Ok x) weaker p = weaker p
-on_ok (Err e) weaker p = tt
-
 -- the next cell has a column
 pub next_inside : (xs : List Column) (rows begun : ℕ) (tys : List ColumnType) (unfinished : List Datum) (cell : Datum) → begun ≤ length xs → map type_of xs ≡ tys →
     row_at (take begun (map cells_of xs)) rows ≡ unfinished → FitsColumn tys (length unfinished) cell → begun < length xs

@@ -1,7 +1,7 @@
 -- The pages of a tree as a layout: nodes, and pages that hold the rest of rows.
 use Rattle.std.proofs.Common.{◌≡◌, ◌≢◌, ℕ, ◌-◌, ◌<◌, ◌≤◌, ◌==◌, ◌&&◌, not, Bool, true, false, if◌then◌else◌, List, [], ◌∷◌, length, refl, sym, ◌∙◌, ap, arith, inl, inr, nat_le, nat_lt}
 use Rattle.std.specs.Prelude.{Option, Some, None, unwrap_or}
-use Rattle.std.proofs.lemmas.Bool.{and_parts, eq-eqb, eqb-true, false≢true, le-leb, leb-true, lt-ltb, ltb-true}
+use Rattle.std.proofs.lemmas.Bool.{and_from, and_parts, eq-eqb, eqb-true, false≢true, le-leb, leb-true, lt-ltb, ltb-true}
 use Rattle.std.proofs.lemmas.Bool.Decides.{nat_tests}
 use Rattle.sqlite_pages.specs.PageMap.{PageMap}
 use Rattle.sqlite_btree.specs.Part.{AreApart, all_pages}
@@ -23,14 +23,11 @@ place-back place = grind (arith, nat_tests)
 abbrev is_spanned : ℕ → ℕ → ℕ → Bool
 is_spanned first next number = nat_le first (place_of number) && (nat_lt (place_of number) next && (number_of (place_of number) == number))
 
-both : (a b : Bool) → a ≡ true → b ≡ true → (a && b) ≡ true
-both a b one two = ap (λ x. x && b) one ∙ two
-
 span-in : (first next place : ℕ) → first ≤ place → place < next → is_spanned first next (number_of place) ≡ true
 span-in first next place least less =
     ap (λ p. nat_le first p && (nat_lt p next && (number_of p == number_of place))) (place-back place)
-    ∙ both (nat_le first place) (nat_lt place next && (number_of place == number_of place)) (le-leb first place least)
-    (both (nat_lt place next) (number_of place == number_of place) (lt-ltb place next less) (eq-eqb (number_of place) (number_of place) refl))
+    ∙ and_from (nat_le first place) (nat_lt place next && (number_of place == number_of place)) (le-leb first place least)
+    (and_from (nat_lt place next) (number_of place == number_of place) (lt-ltb place next less) (eq-eqb (number_of place) (number_of place) refl))
 
 span-out : (first next number : ℕ) → is_spanned first next number ≡ true → IsSpanned first next number
 span-out first next number is =
@@ -115,9 +112,9 @@ module _ (pages : PageMap) (first next : ℕ) (role : Role) where
       let spanned : is_spanned first next number ≡ true = span-in first next place least less in
       record {
         node = λ empty.
-            picked-true (is_node number) (all_pages pages number) (both (is_spanned first next number) (is_empty (role number)) spanned (ap is_empty empty)) ∙ is;
+            picked-true (is_node number) (all_pages pages number) (and_from (is_spanned first next number) (is_empty (role number)) spanned (ap is_empty empty)) ∙ is;
         link = λ some. (
-          picked-true (is_link number) (all_pages pages number) (both (is_spanned first next number) (not (is_empty (role number))) spanned (ap not (some-is (role number) some))) ∙ is,
+          picked-true (is_link number) (all_pages pages number) (and_from (is_spanned first next number) (not (is_empty (role number))) spanned (ap not (some-is (role number) some))) ∙ is,
           refl,
         );
       }

@@ -112,6 +112,3 @@ holds-here place g is = ap (λ t. t || (length g.pages == 4096 * length g.leaves
   eqb-refl : (a b : ℕ) → a ≡ b → (a == b) ≡ true
   eqb-refl a b same = grind (arith, nat_tests)
 
-pub on_ok : {A E P Q : Type 0} (r : Result A E) → (P → Q) → OnOk r P → OnOk r Q
-on_ok (Ok v) f p = f p
-on_ok (Err e) f p = tt

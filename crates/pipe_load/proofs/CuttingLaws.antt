@@ -7,17 +7,13 @@ use Rattle.std.proofs.KnownBytes.{Consumes-trans, Consumes-nil}
 use Rattle.std.proofs.Math.Nat.{mul-le-mul_right}
 use Rattle.std.proofs.lemmas.List.{append-nil, drop-append-le, drop-drop, drop_min, take-append-le}
 use Rattle.std.proofs.lemmas.List.FromFn.{map-range_with_len_more}
+use Rattle.range_guess.proofs.RangeNumbers.{map_range}
 use Rattle.window_load.specs.Window.{WindowView, behind_front, IsFilled}
 use Rattle.window_load.proofs.WindowSteps.{none_behind}
 use Rattle.pipe_load.specs.declared.layout.Layout.{Layout}
 use Rattle.pipe_load.specs.declared.window.Window.{Window}
 use Rattle.pipe_load.specs.Layout.{IsLayout, stride, lead, want, window_start, window_of, windows_of, turned}
 use Rattle.pipe_load.specs.Reading.{HasCut, CutsOn}
-
--- two functions that agree on numbers from a on agree on the list of them
-pub map_range : {A : Type 0} (f h : ℕ → A) (a n : ℕ) → ((k : ℕ) → k < a + n → f k ≡ h k) → map f (range_with_len a n) ≡ map h (range_with_len a n)
-map_range f h a zero e = refl
-map_range f h a (suc n) e = λ i. e a (omega arith) i ∷ map_range f h (a + 1) n (λ k lt. e k (omega (arith, lt))) i
 
 zero_times : (s : ℕ) → 0 * s ≡ 0
 zero_times s = omega arith

@@ -20,6 +20,7 @@ use Rattle.reject_book.specs.declared.book.Keep.TheVariants.{First}
 use Rattle.reject_book.specs.declared.reject.Reject.{Reject}
 use Rattle.reject_book.specs.BookView.{BookView}
 use Rattle.reject_book.specs.Kept.{book_of, raised}
+use Rattle.reject_book.proofs.KeptFronts.{first_kept}
 use Rattle.range_scan.specs.declared.context.Context.{Context}
 use Rattle.range_scan.specs.declared.joined.Joined.{Joined}
 use Rattle.range_guess.specs.declared.span.Span.{Span}
@@ -61,10 +62,6 @@ some_stored (r ∷ rs) some = refl
 none_stored : (rs : List Reject) → length (take 1 rs) ≤ 0 → rs ≡ []
 none_stored [] none = refl
 none_stored (r ∷ rs) none = absurd (let wrong : ⊥ = omega (arith, none) in wrong)
-
-first_stored : (rs : List Reject) → slice_get (take 1 rs) 0 ≡ slice_get rs 0
-first_stored [] = refl
-first_stored (r ∷ rs) = refl
 
 raised_none : (o : Option Reject) → option_map (raised 0) o ≡ o
 raised_none None = refl
@@ -164,7 +161,7 @@ module _ (context : Context) (text : List ℕ) (start size : ℕ) where
         let bad : is_bad (front k) ≡ true = some_stored (front k).faults (omega (arith, some, ap length stored_is)) in
         ap (λ (p : Part (List Datum) Reject). slice_get p.faults 0) all
         ∙ first_fault_left raised (front k) rest bad
-        ∙ sym (first_stored (front k).faults)
+        ∙ sym (first_kept (front k).faults)
         ∙ ap (λ rs. slice_get rs 0) (sym stored_is)
         ∙ sym (raised_none (slice_get joined.book.stored 0))
         ∙ e

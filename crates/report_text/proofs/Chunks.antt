@@ -20,10 +20,6 @@ module _ {X : Type 0} (P : X → Type 0) where
   All-back [] ys h = h
   All-back (x ∷ xs) ys h = All-back xs ys (All-tail P x (xs ++ ys) h)
 
-both : (a b : Bool) → (a && b) ≡ true → b ≡ true
-both true b h = h
-both false b h = absurd (let no : ⊥ = cc in no)
-
 -- rows that fit, of values that some text spells
 pub printable_rows : (tys : List ColumnType) (rows : List (List Datum)) → All (λ cells. fit_all tys cells ≡ true) rows → All (λ cells. All IsSpelledCell cells) rows
     → All (IsPrintableRow tys) rows

@@ -2,26 +2,17 @@
 use Rattle.std.proofs.Common.{◌≡◌, ℕ, zero, suc, ◌+◌, ◌-◌, ◌<◌, ◌≤◌, Bool, true, false, cond, ◌||◌, List, [], ◌∷◌, ◌++◌, length, take, drop, refl, sym, ◌∙◌, ap, ap₂, arith, not, append_assoc, eqb, ltb, get_or, drop-cons, append-nil, length-drop}
 use Rattle.std.specs.Prelude.{slice_range}
 use Rattle.std.specs.List.{prefix_len}
-use Rattle.std.proofs.lemmas.Bool.{ne_eqb, ltb-false}
+use Rattle.std.proofs.lemmas.Bool.{ltb-false, ne_eqb, not-true, or_parts}
 use Rattle.std.proofs.lemmas.List.{drop-drop, drop_all}
 use Rattle.csv_source.specs.Shown.{shown, shown_byte}
 use Rattle.report_text.specs.Ordinary.{is_ordinary, is_spelled}
 
-neither : (a b : Bool) → (a || b) ≡ false → (a ≡ false) × (b ≡ false)
-neither true b h = absurd (let no : ⊥ = cc in no)
-neither false true h = absurd (let no : ⊥ = cc in no)
-neither false false h = (refl, refl)
-
-not_true : (b : Bool) → not b ≡ true → b ≡ false
-not_true true h = absurd (let no : ⊥ = cc in no)
-not_true false h = refl
-
 -- an ordinary byte stands for itself
 plain_byte : (x : ℕ) → is_ordinary x ≡ true → shown_byte x ≡ x ∷ []
 plain_byte x h =
-    let four = neither ((eqb x 92 || eqb x 124) || eqb x 127) (ltb x 32) (not_true (is_spelled x) h) in
-    let three = neither (eqb x 92 || eqb x 124) (eqb x 127) four.0 in
-    let two = neither (eqb x 92) (eqb x 124) three.0 in
+    let four = or_parts ((eqb x 92 || eqb x 124) || eqb x 127) (ltb x 32) (not-true (is_spelled x) h) in
+    let three = or_parts (eqb x 92 || eqb x 124) (eqb x 127) four.0 in
+    let two = or_parts (eqb x 92) (eqb x 124) three.0 in
     let high : 32 ≤ x = ltb-false x 32 four.1 in
     let a : eqb x 92 ≡ false = two.0 in
     let b : eqb x 124 ≡ false = two.1 in

@@ -1,9 +1,9 @@
 use Rattle.std.proofs.Common.{◌≡◌, ◌∙◌, ◌++◌, List, ℕ, Result, Ok, Err, ap, arith, length}
 use Rattle.std.specs.Prelude.{OnErr, OnOk}
+use Rattle.std.proofs.lemmas.Result.{on_ok_weaker}
 use Rattle.value_types.specs.Texts.{on_last}
 use Rattle.value_types.proofs.OnLast.{length-on_last}
 use Rattle.column_store.specs.Nullable.{options_of}
-use Rattle.column_store.proofs.Filled.{on_ok}
 use Rattle.column_store.proofs.Options.{length-options, options-last}
 use Rattle.column_store.proofs.nullable_texts.NullableTexts.extend_last.Goals as goal
 
@@ -25,4 +25,4 @@ pub returns-clause-ok : goal.returns-clause-ok
 returns-clause-ok c =
     let s = c.args.self.now in
     let change : List ℕ → List ℕ = λ text. text ++ c.args.more.now in
-    on_ok c.extend_last.result (λ is. ap (options_of s.nulls.items) is ∙ options-last change s.nulls.items s.texts) c.extend_last.ensures.ok
+    on_ok_weaker c.extend_last.result (λ is. ap (options_of s.nulls.items) is ∙ options-last change s.nulls.items s.texts) c.extend_last.ensures.ok

@@ -1,9 +1,9 @@
 use Rattle.std.proofs.Common.{◌≡◌, ◌+◌, true, false, ◌∙◌, ap, sym, rules}
+use Rattle.std.proofs.lemmas.Result.{IfOk-weaker}
 use Rattle.csv_sniffer.specs.Input.{place_under}
 use Rattle.window_load.specs.Window.{reach}
 use Rattle.csv_loader.specs.declared.loading.FileLoad.TheVariants.{OtherHeader}
 use Rattle.csv_loader.specs.Loading.{is_headed_otherwise, IsFileLoad, IsLaterLoad}
-use Rattle.csv_loader.proofs.Results.{ok_weaker}
 use Rattle.csv_loader.proofs.HeadFiles.{whole_file, over_file}
 use Rattle.csv_loader.proofs.HeadSteps.{headed_in_all, later_load, past_over, past_whole}
 use Rattle.csv_loader.proofs.loader.Loader.load_later.Goals as goal
@@ -35,7 +35,7 @@ returns-clause-ok g c =
     let s = c.args.sniffed.now in
     let head = c.in_ok-head.head in
     let alike : is_headed_otherwise o s head.kept ≡ false = sym (c.in_ok-is_headed_otherwise.ensures.ok ∙ ap (is_headed_otherwise o s) c.bytes.ensures) ∙ c.if-branch.false in
-    ok_weaker c.load_data.result _ _
+    IfOk-weaker c.load_data.result _ _
     (λ load. whole_file o.max_input (g.S.Source.held c.args.source.now) c.args.name.now (g.S.Source.left c.open_head.new.source) (g.S.Source.left c.load_data.new.source) head c.in_ok-head.ensures.ok.0.limit c.in_ok-head.ensures.ok.1
     (λ input. IsFileLoad o s c.args.file_id input load) (λ input. IsLaterLoad o s c.args.file_id input load) (λ came quiet is. later_load o head c.in_ok-head.ensures.ok.0 came quiet s c.args.file_id load alike is))
     c.load_data.ensures.ok
