@@ -5,27 +5,24 @@ ghost use Rattle.reject_writer.specs.WrittenField.{written_field};
 
 use csv_source::NoMemory;
 use csv_writer::{push_comma, push_text};
+use reject_book::RejectField;
 use text_pieces::Draft;
 
-/// A field of a line, as it stands on the caller's stack.
-#[derive(Clone, Copy)]
-pub(crate) enum Field<'a> {
-    Text(&'a [u8]),
-    Number(u64),
-}
-
 /// Appends a field.
-fn push_field(into: &mut Draft, field: Field<'_>) -> Result<(), NoMemory>
+fn push_field(into: &mut Draft, field: RejectField<'_>) -> Result<(), NoMemory>
     ensures { OnOk result (into.new.text ≡ into.old.text ++ written_field field.entry) }
 {
     match field {
-        Field::Text(text) => push_text(into, text),
-        Field::Number(number) => push_text(into, itoa::Buffer::new().format(number).as_bytes()),
+        RejectField::Number(number) => {
+            push_text(into, itoa::Buffer::new().format(number).as_bytes())
+        }
+        RejectField::Text(text) => push_text(into, text),
+        RejectField::Bytes(bytes) => push_text(into, bytes),
     }
 }
 
 /// Appends a line of fields. A line takes no memory of its own.
-pub(crate) fn push_line(into: &mut Draft, fields: &[Field<'_>]) -> Result<(), NoMemory>
+pub(crate) fn push_line(into: &mut Draft, fields: &[RejectField<'_>]) -> Result<(), NoMemory>
     ensures { OnOk result (into.new.text ≡ into.old.text ++ line_of_fields (map written_field fields.now)) }
 {
     for column in 0..fields.len() {

@@ -1,31 +1,32 @@
 // The text of stored rejects.
 ghost use Rattle.std.specs.Prelude.{◌≡◌, ◌++◌, flat_map, IfOk, OnOk};
 ghost use Rattle.csv_writer.specs.WrittenTable.{names_line};
-ghost use Rattle.reject_writer.specs.WrittenRejects.{reject_line, reject_names, written_rejects};
+ghost use Rattle.reject_book.specs.Fields.{field_names};
+ghost use Rattle.reject_writer.specs.WrittenRejects.{reject_line, written_rejects};
 
-use crate::fields::{Field, push_line};
+use crate::fields::push_line;
 use csv_source::NoMemory;
-use reject_book::{Book, Reject, kind_name};
+use reject_book::{Book, Reject, RejectField};
 use std::alloc::Global;
 use text_pieces::{Draft, Pieces};
 
 /// Appends the line of names.
 fn push_names(into: &mut Draft) -> Result<(), NoMemory>
-    ensures { OnOk result (into.new.text ≡ into.old.text ++ names_line reject_names) }
+    ensures { OnOk result (into.new.text ≡ into.old.text ++ names_line field_names) }
 {
     push_line(
         into,
         &[
-            Field::Text(b"scan_id"),
-            Field::Text(b"file_id"),
-            Field::Text(b"line"),
-            Field::Text(b"line_byte_position"),
-            Field::Text(b"byte_position"),
-            Field::Text(b"column_idx"),
-            Field::Text(b"column_name"),
-            Field::Text(b"error_type"),
-            Field::Text(b"csv_line"),
-            Field::Text(b"error_message"),
+            RejectField::Text(b"scan_id"),
+            RejectField::Text(b"file_id"),
+            RejectField::Text(b"line"),
+            RejectField::Text(b"line_byte_position"),
+            RejectField::Text(b"byte_position"),
+            RejectField::Text(b"column_idx"),
+            RejectField::Text(b"column_name"),
+            RejectField::Text(b"error_type"),
+            RejectField::Text(b"csv_line"),
+            RejectField::Text(b"error_message"),
         ],
     )
 }
@@ -34,21 +35,8 @@ fn push_names(into: &mut Draft) -> Result<(), NoMemory>
 fn push_reject(into: &mut Draft, reject: &Reject) -> Result<(), NoMemory>
     ensures { OnOk result (into.new.text ≡ into.old.text ++ reject_line reject.now) }
 {
-    push_line(
-        into,
-        &[
-            Field::Number(reject.scan_id),
-            Field::Number(reject.file_id),
-            Field::Number(reject.line),
-            Field::Number(reject.line_byte_position),
-            Field::Number(reject.byte_position),
-            Field::Number(reject.column_idx),
-            Field::Text(reject.column_name.as_slice()),
-            Field::Text(kind_name(reject.error_type).as_bytes()),
-            Field::Text(reject.csv_line.as_slice()),
-            Field::Text(reject.error_message.as_slice()),
-        ],
-    )
+    let fields = reject.fields();
+    push_line(into, &fields)
 }
 
 /// Appends the lines of the stored rejects.

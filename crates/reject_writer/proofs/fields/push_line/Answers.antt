@@ -1,17 +1,17 @@
 use Rattle.std.proofs.Common.{arith}
-use Rattle.std.specs.Prelude.{List, [], slice_index_or}
+use Rattle.std.specs.Prelude.{List, slice_index_or}
 use Rattle.csv_writer.proofs.Lines.{field_appended}
 use Rattle.std.proofs.lemmas.Option.{slice_get-get_or}
-use Rattle.reject_writer.specs.declared.fields.Field.{Field}
-use Rattle.reject_writer.specs.declared.fields.Field.TheVariants.{Text}
+use Rattle.reject_book.specs.declared.fields.RejectField.{RejectField}
+use Rattle.reject_book.specs.declared.fields.RejectField.TheVariants.{Number}
 use Rattle.reject_writer.specs.WrittenField.{written_field}
 use Rattle.reject_writer.proofs.fields.push_line.Goals as goal
 
 pub loop-column-preserved : goal.loop-column-preserved
 loop-column-preserved c =
-    let fields : List Field = c.args.fields.now in
+    let fields : List RejectField = c.args.fields.now in
     let k = c.loop-column.column in
-    let nothing : Field = Text (record { ref_ptr = (0, 0); now = [] }) in
-    let field : Field = slice_index_or fields k nothing in
+    let nothing : RejectField = Number 0 in
+    let field : RejectField = slice_index_or fields k nothing in
     field_appended written_field fields k field c.args.into.now.text c.loop-column.into.text c.push_comma.new.into.text c.push_field.new.into.text
     (slice_get-get_or fields k nothing (omega (arith, c.loop-column-test.true))) c.loop-column.invariant c.in_ok-push_comma.ensures.ok c.in_ok-push_field.ensures
