@@ -1,6 +1,6 @@
 -- The columns of a chunk through its calls.
 use Rattle.std.proofs.Common.{◌≡◌, ◌≢◌, ℕ, zero, suc, ◌+◌, ◌-◌, ◌^◌, ◌<◌, ◌≤◌, refl, sym, ap, ◌∙◌, subst, arith, List, [], ◌∷◌, ◌++◌, length, get_or, set, take, map, inl, inr, Result, Ok, Err, true, false, Option, Some, None, is_some, append-nil}
-use Rattle.std.specs.Prelude.{All, OnErr, OnOk, option_and_then, slice_get}
+use Rattle.std.specs.Prelude.{All, OnErr, option_and_then, slice_get}
 use Rattle.std.specs.Option.{option_to_list}
 use Rattle.std.proofs.lemmas.Bool.{cases_eq, cases_lt, false≢true}
 use Rattle.std.proofs.lemmas.List.{length-map, length-set, length-take, get_or_default, get_or-set_same, get_or-set_other, get_or_push, get_or-map, map-set, map_push, take-take, take_more_set, take-set, take_all, take_at}

@@ -1,6 +1,6 @@
 -- Groups of whole blocks, one more at a time.
 use Rattle.std.proofs.Common.{◌≡◌, ℕ, suc, ◌+◌, ◌-◌, ◌*◌, ◌/◌, ◌%◌, ◌^◌, ◌<◌, ◌≤◌, ◌⊎◌, inl, inr, true, min, List, [], ◌∷◌, ◌++◌, length, take, drop, get_or, append-nil, refl, sym, ◌∙◌, ap, subst, arith}
-use Rattle.std.specs.Prelude.{All, ◌==◌, ◌||◌, slice_range, Result, Ok, Err, OnOk}
+use Rattle.std.specs.Prelude.{All, ◌==◌, ◌||◌, slice_range}
 use Rattle.std.proofs.lemmas.Bool.{cases_lt}
 use Rattle.std.proofs.lemmas.Bool.Decides.{nat_tests}
 use Rattle.std.proofs.lemmas.List.Elements.{All-append, All-cons, All-nil}
@@ -111,4 +111,3 @@ pub holds-here : (place : ℕ) (g : Grown) → g.base ≡ place → holds_at pla
 holds-here place g is = ap (λ t. t || (length g.pages == 4096 * length g.leaves)) (eqb-refl g.base place is) where
   eqb-refl : (a b : ℕ) → a ≡ b → (a == b) ≡ true
   eqb-refl a b same = grind (arith, nat_tests)
-
