@@ -13,7 +13,8 @@ use Rattle.csv_sniffer.specs.declared.found.Newline.{Newline}
 use Rattle.csv_sniffer.specs.declared.found.Newline.TheVariants as newline
 use Rattle.csv_sniffer.specs.declared.found.Sniffed.{Sniffed}
 use Rattle.reject_book.specs.declared.reject.Reject.{Reject}
-use Rattle.reject_book.specs.Kind.{name_of_kind}
+use Rattle.reject_book.specs.Fields.{Field, fields_of}
+use Rattle.reject_book.specs.Fields as fields
 use Rattle.report_text.specs.declared.outcome.Mismatch.{Mismatch}
 use Rattle.report_text.specs.declared.outcome.Mismatch.TheVariants.{NoColumn, OtherHeader, TooManyColumns}
 use Rattle.report_text.specs.declared.outcome.Stats.{Stats}
@@ -87,20 +88,14 @@ scan_line s file_id file = line_of
     ∷ decimal (length s.types)
     ∷ [])
 
+-- a number in decimal digits, a text as it is, bytes as they are shown
+abbrev pub field_text : Field → List ℕ
+field_text (fields.number n) = decimal n
+field_text (fields.text t) = t
+field_text (fields.bytes b) = shown b
+
 abbrev pub error_line : Reject → List ℕ
-error_line r = line_of
-    (codes "error"
-    ∷ decimal r.scan_id
-    ∷ decimal r.file_id
-    ∷ decimal r.line
-    ∷ decimal r.line_byte_position
-    ∷ decimal r.byte_position
-    ∷ decimal r.column_idx
-    ∷ shown r.column_name
-    ∷ name_of_kind r.error_type
-    ∷ shown r.csv_line
-    ∷ shown r.error_message
-    ∷ [])
+error_line r = line_of (codes "error" ∷ map field_text (fields_of r))
 
 abbrev pub errors_line : ℕ → ℕ → List ℕ
 errors_line stored all = line_of (codes "errors" ∷ decimal stored ∷ decimal all ∷ [])
