@@ -151,12 +151,14 @@ fn a_write_that_fails_leaves_those_before(rt: HostRuntime) -> Result<(), NoMemor
     };
     let (letters, wanted) = WANTED[5];
     for (refused, lengths) in TAKEN {
-        for number in 0..lengths.len() {
+        let mut number: u64 = 0;
+        for &length in lengths {
+            number = number.wrapping_add(1);
             let mut sink = MemorySink::with_room(alloc, 100)?;
-            sink.fail_call(number as u64 + 1)?;
+            sink.fail_call(number)?;
             let text = text_of(&workers, letters, MUCH, refused)?;
             assert!(rt; text.write(&rt, &mut sink).is_err());
-            assert!(rt; sink.taken() == &wanted[..lengths[number]]);
+            assert!(rt; sink.taken().len() == length && wanted.starts_with(sink.taken()));
         }
     }
     Ok(())
