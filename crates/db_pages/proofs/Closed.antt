@@ -2,8 +2,8 @@
 use Rattle.std.proofs.Common.{◌≡◌, ℕ, ◌+◌, ◌-◌, ◌*◌, true, false, map, ◌≤◌, ◌||◌, ◌==◌, Bool, List, [], ◌∷◌, ◌++◌, length, refl, sym, ◌∙◌, ap, arith, length-append}
 use Rattle.std.proofs.lemmas.Bool.{cond-true, cond-false, false≢true}
 use Rattle.std.proofs.lemmas.Bool.Decides.{nat_tests}
-use Rattle.db_records.specs.Page.{joined, leaf_page}
-use Rattle.db_records.proofs.Pages.{length-leaf_page}
+use Rattle.db_pages.specs.Page.{joined, leaf_page}
+use Rattle.db_pages.proofs.Pages.{length-leaf_page}
 use Rattle.db_pages.specs.declared.child.Child.{Child}
 use Rattle.csv_source.specs.Lists.{is_empty}
 use Rattle.db_pages.specs.Laid.{next_place}

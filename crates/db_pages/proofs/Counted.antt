@@ -5,8 +5,8 @@ use Rattle.std.proofs.lemmas.Bool.{cases_lt, cond-true, cond-false, le-leb, lt-l
 use Rattle.sqlite_format.specs.declared.kind.Tree.TheVariants.{Table}
 use Rattle.sqlite_format.specs.Cell.{local_len}
 use Rattle.db_records.specs.Cell.{cell_bytes}
-use Rattle.db_records.specs.Page.{joined, leaf_page}
-use Rattle.db_records.proofs.Pages.{length-leaf_page}
+use Rattle.db_pages.specs.Page.{joined, leaf_page}
+use Rattle.db_pages.proofs.Pages.{length-leaf_page}
 use Rattle.db_pages.specs.declared.child.Child.{Child}
 use Rattle.csv_source.specs.Lists.{is_empty}
 use Rattle.db_pages.specs.Laid.{Laid, chain, ended, finished, long_cell, next_place, nothing_laid, roomy, with_long, with_row, with_rows, with_short}

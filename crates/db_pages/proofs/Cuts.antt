@@ -2,7 +2,7 @@
 use Rattle.std.proofs.Common.{◌≡◌, ℕ, ◌+◌, ◌-◌, ◌*◌, ◌/◌, ◌%◌, ◌≤◌, ◌==◌, false, List, [], ◌∷◌, ◌++◌, length, take, drop, replicate, refl, sym, ◌∙◌, ap, arith, append-nil, append_assoc, length-append, length-drop, length-take-le, take-append-drop}
 use Rattle.std.proofs.lemmas.List.{take_all, take-append-le, drop-append-le}
 use Rattle.std.proofs.lemmas.Bool.Decides.{nat_tests}
-use Rattle.db_records.specs.Page.{joined, places}
+use Rattle.db_pages.specs.Page.{joined, places}
 use Rattle.db_pages.specs.Cut.{cut, packed, page_head, starts, total, Fits}
 use Rattle.csv_source.specs.Lists.{is_empty}
 

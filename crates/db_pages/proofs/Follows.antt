@@ -6,7 +6,7 @@ use Rattle.std.proofs.lemmas.List.{map-append}
 use Rattle.sqlite_format.specs.declared.kind.Tree.TheVariants.{Table}
 use Rattle.sqlite_format.specs.Cell.{local_len}
 use Rattle.db_records.specs.Cell.{cell_bytes}
-use Rattle.db_records.specs.Page.{joined, leaf_page}
+use Rattle.db_pages.specs.Page.{joined, leaf_page}
 use Rattle.db_pages.specs.declared.child.Child.{Child}
 use Rattle.csv_source.specs.Lists.{is_empty}
 use Rattle.db_pages.specs.Laid.{Laid, chain, ended, finished, long_cell, next_place, roomy, with_long, with_row, with_rows, with_short}

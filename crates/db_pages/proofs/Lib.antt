@@ -1,3 +1,4 @@
+pub mod Pages
 pub mod Appends
 pub mod Cuts
 pub mod Closed

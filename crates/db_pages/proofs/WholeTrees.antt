@@ -3,9 +3,9 @@ use Rattle.std.proofs.Common.{◌≡◌, ℕ, zero, suc, ◌+◌, ◌-◌, ◌*�
 use Rattle.std.specs.Prelude.{⊤}
 use Rattle.std.proofs.lemmas.Bool.{cases_lt, cond-true, cond-false, le-leb, lt-leb}
 use Rattle.std.proofs.lemmas.List.{length-replicate}
-use Rattle.db_records.specs.Page.{joined, leaf_page, places}
+use Rattle.db_pages.specs.Page.{joined, leaf_page, places}
 use Rattle.db_records.specs.Varint.{varint}
-use Rattle.db_records.proofs.Pages.{length-leaf_page, length-places}
+use Rattle.db_pages.proofs.Pages.{length-leaf_page, length-places}
 use Rattle.db_pages.specs.declared.child.Child.{Child}
 use Rattle.db_pages.specs.Grown.{Grown, grown, tree_of, tree_over, with_leaf}
 use Rattle.csv_source.specs.Lists.{is_empty}

@@ -1,6 +1,6 @@
 -- Cells one behind another, cut by their sizes.
 use Rattle.std.specs.Prelude.{◌≡◌, ℕ, ◌+◌, ◌-◌, ◌*◌, ◌/◌, ◌%◌, ◌≤◌, List, [], ◌∷◌, ◌++◌, length, take, drop, replicate}
-use Rattle.db_records.specs.Page.{content_at, joined, places}
+use Rattle.db_pages.specs.Page.{content_at, joined, places}
 
 abbrev pub total : List ℕ → ℕ
 total [] = 0

@@ -1,6 +1,6 @@
 -- The pages of a table, written by several workers and joined.
 use Rattle.std.specs.Prelude.{ℕ, ◌+◌, ◌-◌, ◌*◌, ◌==◌, ◌||◌, Bool, List, [], ◌∷◌, ◌++◌, length, map, if◌then◌else◌}
-use Rattle.db_records.specs.Page.{leaf_page}
+use Rattle.db_pages.specs.Page.{leaf_page}
 use Rattle.db_pages.specs.declared.child.Child.{Child}
 use Rattle.csv_source.specs.Lists.{is_empty}
 use Rattle.db_pages.specs.Laid.{Laid, ended, next_place, nothing_laid, with_rows}

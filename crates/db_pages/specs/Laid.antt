@@ -5,7 +5,7 @@ use Rattle.sqlite_format.specs.declared.kind.Tree.TheVariants.{Table}
 use Rattle.sqlite_format.specs.Cell.{local_len}
 use Rattle.db_records.specs.Varint.{varint}
 use Rattle.db_records.specs.Cell.{cell_bytes}
-use Rattle.db_records.specs.Page.{joined, leaf_page}
+use Rattle.db_pages.specs.Page.{joined, leaf_page}
 use Rattle.db_pages.specs.declared.child.Child.{Child}
 use Rattle.db_pages.specs.Numbers.{four_bytes, number_of}
 

@@ -1,9 +1,14 @@
 -- What holds of pages, whoever wrote them.
-use Rattle.std.specs.Prelude.{◌≡◌, ℕ, ◌+◌, ◌%◌, true, List, [], ◌∷◌, ◌++◌, length, map}
+use Rattle.std.specs.Prelude.{◌≡◌, ℕ, ◌+◌, ◌*◌, ◌%◌, ◌≤◌, true, List, [], ◌∷◌, ◌++◌, length, map, All}
+use Rattle.sqlite_format.specs.declared.kind.Kind.{Kind}
+use Rattle.sqlite_format.specs.declared.kind.Tree.TheVariants.{Table}
+use Rattle.sqlite_format.specs.Cell.{IsCell}
+use Rattle.sqlite_format.specs.Page.{page_cells, IsPage}
 use Rattle.db_records.specs.Record.{record_bytes}
 use Rattle.db_pages.specs.Laid.{Laid, next_place, with_rows}
 use Rattle.db_pages.specs.Grown.{behind, grown, holds_at, tree_of}
 use Rattle.db_pages.specs.Image.{Tabled, imaged, with_table}
+use Rattle.db_pages.specs.Page.{joined, leaf_page}
 
 -- rows that are laid out behind others are laid out with them
 abbrev pub RowsFollow : Type 0
@@ -23,3 +28,16 @@ abbrev pub TablesFollow : Type 0
 TablesFollow =
     (tables : List Tabled) (table : Tabled) →
     with_table (imaged tables) table.name table.sql (tree_of (next_place 1 (imaged tables).trees) (map record_bytes table.rows)) ≡ imaged (tables ++ table ∷ [])
+
+-- a leaf of a table
+abbrev pub leaf_kind : Kind
+leaf_kind = record { tree = Table; leaf = true }
+
+-- a page of a kind that has the right size, in which the cells are found, and which is well formed: its cells share no byte, and none is lost
+pub record HoldsCells (kind : Kind) (page : List ℕ) (cells : List (List ℕ)) : Type 0 where
+  pub size : length page ≡ 4096
+  pub found : page_cells kind page 0 ≡ cells
+  pub sound : IsPage kind page 0
+
+abbrev pub LeafReadsBack : Type 0
+LeafReadsBack = (cells : List (List ℕ)) → All (IsCell leaf_kind 4096) cells → 8 + 2 * length cells + length (joined cells) ≤ 4096 → HoldsCells leaf_kind (leaf_page cells) cells

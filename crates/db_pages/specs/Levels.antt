@@ -1,7 +1,7 @@
 -- The pages above others (SQLite, "Database File Format", section 1.6; how pages are grouped is this writer's profile).
 use Rattle.std.specs.Prelude.{ℕ, zero, suc, ◌+◌, ◌-◌, ◌*◌, ◌/◌, ◌%◌, List, [], ◌∷◌, ◌++◌, length, take, drop, replicate, nat_le, nat_lt, if◌then◌else◌}
 use Rattle.db_records.specs.Varint.{varint}
-use Rattle.db_records.specs.Page.{joined, places}
+use Rattle.db_pages.specs.Page.{joined, places}
 use Rattle.db_pages.specs.declared.child.Child.{Child}
 use Rattle.db_pages.specs.Numbers.{four_bytes, number_of}
 

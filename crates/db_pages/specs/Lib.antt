@@ -1,3 +1,4 @@
+pub mod Page
 pub mod Cut
 pub mod Numbers
 pub mod Laid

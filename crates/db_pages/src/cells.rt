@@ -1,7 +1,7 @@
 // The cells of a page under way.
 ghost use Rattle.std.specs.Prelude.{◌≡◌, ◌==◌, ◌+◌, ◌*◌, ◌≤◌, ◌<◌, ◌++◌, [], ◌∷◌, length, nat_le, OnOk};
 ghost use Rattle.db_records.specs.Cell.{cell_bytes};
-ghost use Rattle.db_records.specs.Page.{joined, leaf_page};
+ghost use Rattle.db_pages.specs.Page.{joined, leaf_page};
 ghost use Rattle.db_records.specs.Record.{record_of, IsShortRecord};
 ghost use Rattle.db_records.specs.Varint.{varint};
 ghost use Rattle.csv_source.specs.Lists.{is_empty};

@@ -1,5 +1,5 @@
-//! Laws over the definitions: what is joined is what one writer would have written.
-ghost use Rattle.db_pages.specs.Laws.{GroupsJoin, RowsFollow, TablesFollow};
+//! Laws over the definitions: what is joined is what one writer would have written, and a leaf reads back.
+ghost use Rattle.db_pages.specs.Laws.{GroupsJoin, LeafReadsBack, RowsFollow, TablesFollow};
 
 /// Rows that are laid out behind others are laid out with them.
 pub fn rows_follow()
@@ -15,4 +15,9 @@ pub fn groups_join()
 /// A table whose tree is written behind those of others is one more of them.
 pub fn tables_follow()
     ensures { TablesFollow }
+{}
+
+/// A leaf that is written has its size, and its cells are found in it, by the definitions of the kit's own reader.
+pub fn leaf_reads_back()
+    ensures { LeafReadsBack }
 {}

@@ -1,6 +1,6 @@
 // Rows in leaves.
 ghost use Rattle.std.specs.Prelude.{◌≡◌, ◌==◌, ◌+◌, ◌*◌, ◌%◌, ◌<◌, ◌≤◌, [], ◌∷◌, if◌then◌else◌, length, IfOk, OnOk};
-ghost use Rattle.db_records.specs.Page.{joined};
+ghost use Rattle.db_pages.specs.Page.{joined};
 ghost use Rattle.db_records.specs.Record.{record_of, IsShortRecord};
 ghost use Rattle.db_pages.specs.Grown.{closed, filled, holds_at};
 ghost use Rattle.db_pages.specs.Laid.{ended, finished, next_place, roomy, with_long, with_rows, with_short};

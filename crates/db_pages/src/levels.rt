@@ -1,6 +1,6 @@
 // The pages above the leaves of a table.
 ghost use Rattle.std.specs.Prelude.{◌≡◌, ◌<◌, ◌≤◌, ◌+◌, ◌*◌, ◌++◌, [], ◌∷◌, length, IfOk, OnOk};
-ghost use Rattle.db_records.specs.Page.{joined};
+ghost use Rattle.db_pages.specs.Page.{joined};
 ghost use Rattle.db_pages.specs.Levels.{dividers, grouped, last_child, level_children, level_pages, levels_pages, page_above, root_place};
 
 use crate::cells::Cells;

@@ -6,9 +6,9 @@ use Rattle.sqlite_format.specs.declared.kind.Tree.TheVariants.{Table}
 use Rattle.sqlite_format.specs.Varint.{varint_value}
 use Rattle.sqlite_format.specs.Cell.{IsCell, body_key, body_size, cell_body, cell_child, cell_size, flip_sign}
 use Rattle.sqlite_format.specs.Page.{right_child}
-use Rattle.db_records.specs.Page.{content_at}
+use Rattle.db_pages.specs.Page.{content_at}
 use Rattle.db_records.specs.Varint.{varint}
-use Rattle.db_records.proofs.Pages.{page-holds}
+use Rattle.db_pages.proofs.Pages.{page-holds}
 use Rattle.db_records.proofs.Varints.{varint-is}
 use Rattle.db_pages.specs.declared.child.Child.{Child}
 use Rattle.db_pages.specs.Levels.{dividers, last_child, page_above}

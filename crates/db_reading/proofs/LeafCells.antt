@@ -10,7 +10,8 @@ use Rattle.sqlite_btree.specs.Items.{item_in}
 use Rattle.sqlite_btree.specs.Chain.{Entry, HasChain, IsChain, IsLinkOfRow, IsOnChain, Layout, chain_bytes, entry_of, payload_in}
 use Rattle.sqlite_btree.proofs.ChainLemmas.{bytes_none}
 use Rattle.db_records.specs.Cell.{cell_bytes}
-use Rattle.db_records.specs.Laws.{CellReads, leaf_kind}
+use Rattle.db_records.specs.Laws.{CellReads}
+use Rattle.db_pages.specs.Laws.{leaf_kind}
 use Rattle.db_records.specs.Varint.{varint}
 use Rattle.db_records.proofs.Cells.{cell-reads}
 use Rattle.db_records.proofs.Varints.{varint-len, varint-size, varint-value}

@@ -10,7 +10,7 @@ use Rattle.sqlite_btree.specs.Tree.{IsPageOf, IsTop, IsTree, cells_of, header_of
 use Rattle.sqlite_btree.specs.Chain.{Layout, entry_of}
 use Rattle.sqlite_btree.specs.Stored.{height_from}
 use Rattle.sqlite_btree.proofs.TreeLemmas.{EachChild-last, header_of_other}
-use Rattle.db_records.specs.Laws.{leaf_kind}
+use Rattle.db_pages.specs.Laws.{leaf_kind}
 use Rattle.db_pages.specs.declared.child.Child.{Child}
 use Rattle.db_pages.specs.Numbers.{number_of}
 use Rattle.db_reading.specs.Entries.{row_entries}

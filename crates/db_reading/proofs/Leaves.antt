@@ -9,9 +9,9 @@ use Rattle.sqlite_format.specs.Page.{IsPage, page_cells}
 use Rattle.sqlite_btree.specs.Cut.{Each}
 use Rattle.sqlite_btree.specs.Chain.{Entry, IsLinkOfRow, Layout}
 use Rattle.db_records.specs.Cell.{cell_bytes}
-use Rattle.db_records.specs.Laws.{HoldsCells, leaf_kind}
-use Rattle.db_records.specs.Page.{joined, leaf_page}
-use Rattle.db_records.proofs.Pages.{leaf-holds, length-leaf_page}
+use Rattle.db_pages.specs.Laws.{HoldsCells, leaf_kind}
+use Rattle.db_pages.specs.Page.{joined, leaf_page}
+use Rattle.db_pages.proofs.Pages.{leaf-holds, length-leaf_page}
 use Rattle.db_pages.specs.declared.child.Child.{Child}
 use Rattle.csv_source.specs.Lists.{is_empty}
 use Rattle.db_pages.specs.Laid.{Laid, chain, ended, finished, long_cell, next_place, roomy, with_long, with_row, with_rows, with_short}

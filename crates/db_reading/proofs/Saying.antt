@@ -8,8 +8,8 @@ use Rattle.sqlite_format.specs.Page.{IsPage, page_cells}
 use Rattle.sqlite_btree.specs.Part.{Part}
 use Rattle.sqlite_btree.specs.Cut.{Each, IsIn}
 use Rattle.sqlite_btree.specs.Chain.{Entry, HasChain, IsLinkOfRow, Layout}
-use Rattle.db_records.specs.Laws.{leaf_kind}
-use Rattle.db_records.specs.Page.{joined}
+use Rattle.db_pages.specs.Laws.{leaf_kind}
+use Rattle.db_pages.specs.Page.{joined}
 use Rattle.db_pages.specs.declared.child.Child.{Child}
 use Rattle.db_pages.specs.Laid.{Laid, next_place, nothing_laid}
 use Rattle.db_pages.specs.Numbers.{number_of}

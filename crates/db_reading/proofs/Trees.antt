@@ -13,9 +13,9 @@ use Rattle.sqlite_btree.specs.Tree.{IsPageOf, IsTop, Reaches, cells_of, header_o
 use Rattle.sqlite_btree.specs.Chain.{Entry, Layout, entry_of}
 use Rattle.sqlite_btree.specs.Stored.{entries_at, form_of, no_order}
 use Rattle.sqlite_btree.proofs.TreeLemmas.{header_of_other}
-use Rattle.db_records.specs.Laws.{HoldsCells, leaf_kind}
-use Rattle.db_records.specs.Page.{leaf_page}
-use Rattle.db_records.proofs.Pages.{leaf-holds, length-leaf_page}
+use Rattle.db_pages.specs.Laws.{HoldsCells, leaf_kind}
+use Rattle.db_pages.specs.Page.{leaf_page}
+use Rattle.db_pages.proofs.Pages.{leaf-holds, length-leaf_page}
 use Rattle.db_pages.specs.declared.child.Child.{Child}
 use Rattle.db_pages.specs.Grown.{Grown, TreeBytes, grown, tree_of, tree_over, with_leaf}
 use Rattle.csv_source.specs.Lists.{is_empty}

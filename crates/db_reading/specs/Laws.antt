@@ -8,7 +8,7 @@ use Rattle.sqlite_pages.specs.PageMap.{PageMap}
 use Rattle.sqlite_btree.specs.Part.{Part, all_pages}
 use Rattle.sqlite_btree.specs.Chain.{payload_in}
 use Rattle.sqlite_btree.specs.Stored.{entries_at}
-use Rattle.db_records.specs.Laws.{HoldsCells}
+use Rattle.db_pages.specs.Laws.{HoldsCells}
 use Rattle.db_records.specs.Varint.{varint}
 use Rattle.db_pages.specs.declared.child.Child.{Child}
 use Rattle.db_pages.specs.Grown.{tree_of}

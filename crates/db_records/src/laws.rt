@@ -1,5 +1,5 @@
 //! Laws over the definitions: what is written reads back.
-ghost use Rattle.db_records.specs.Laws.{CellReadsBack, LeafReadsBack, RecordReadsBack, VarintReadsBack};
+ghost use Rattle.db_records.specs.Laws.{CellReadsBack, RecordReadsBack, VarintReadsBack};
 
 /// A number below 2^56 that is written reads back as itself, and no byte behind it is read.
 pub fn varint_reads_back()
@@ -14,9 +14,4 @@ pub fn record_reads_back()
 /// A cell that is written reads back: its length, its rowid and its record.
 pub fn cell_reads_back()
     ensures { CellReadsBack }
-{}
-
-/// A leaf that is written has its size, and its cells are found in it.
-pub fn leaf_reads_back()
-    ensures { LeafReadsBack }
 {}

@@ -1,7 +1,7 @@
 use Rattle.std.proofs.Common.{◌≡◌, ◌+◌, ◌++◌, [], ◌∙◌, ◌∷◌, List, ℕ, length, ap, arith, length-append}
 use Rattle.db_records.specs.Varint.{varint}
 use Rattle.db_pages.specs.Numbers.{four_bytes, number_of}
-use Rattle.db_records.specs.Page.{joined}
+use Rattle.db_pages.specs.Page.{joined}
 use Rattle.db_pages.specs.Cut.{cut}
 use Rattle.db_pages.proofs.Cuts.{cells_more, fits_with, joined_more}
 use Rattle.db_pages.proofs.cells.Cells.push_divider.Goals as goal

@@ -1,6 +1,6 @@
 use Rattle.std.proofs.Common.{◌≡◌, ◌++◌, List, ℕ, length, ◌∙◌, ap, arith}
 use Rattle.std.proofs.lemmas.Result.{on_ok_weaker}
-use Rattle.db_records.specs.Page.{joined}
+use Rattle.db_pages.specs.Page.{joined}
 use Rattle.db_pages.specs.Cut.{cut, packed, page_head}
 use Rattle.db_pages.specs.Numbers.{four_bytes, number_of}
 use Rattle.db_pages.proofs.Appends.{three_behind}

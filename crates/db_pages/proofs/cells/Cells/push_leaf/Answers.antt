@@ -1,6 +1,6 @@
 use Rattle.std.proofs.Common.{◌≡◌, ◌++◌, List, ℕ, length, ◌∙◌, ap}
 use Rattle.std.proofs.lemmas.Result.{on_ok_weaker}
-use Rattle.db_records.specs.Page.{joined}
+use Rattle.db_pages.specs.Page.{joined}
 use Rattle.db_pages.specs.Cut.{cut, packed, page_head}
 use Rattle.db_pages.proofs.Appends.{two_behind}
 use Rattle.db_pages.proofs.Cuts.{head_cut}

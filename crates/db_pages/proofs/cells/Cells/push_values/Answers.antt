@@ -1,6 +1,6 @@
 use Rattle.std.proofs.Common.{◌+◌, ◌*◌, ◌≤◌, List, ℕ, length, arith}
 use Rattle.db_records.specs.Cell.{cell_bytes}
-use Rattle.db_records.specs.Page.{joined}
+use Rattle.db_pages.specs.Page.{joined}
 use Rattle.db_records.specs.Record.{record_of}
 use Rattle.db_pages.proofs.Cuts.{cells_more, fits_with}
 use Rattle.db_pages.proofs.cells.Cells.push_values.Goals as goal

@@ -1,6 +1,6 @@
 use Rattle.std.proofs.Common.{◌≡◌, ◌++◌, ◌∷◌, ◌∙◌, [], true, ap, sym, rules}
 use Rattle.std.proofs.lemmas.Result.{on_ok_weaker}
-use Rattle.db_records.specs.Page.{leaf_page}
+use Rattle.db_pages.specs.Page.{leaf_page}
 use Rattle.db_pages.specs.declared.child.Child.{Child}
 use Rattle.db_pages.specs.Grown.{Grown}
 use Rattle.csv_source.specs.Lists.{is_empty}

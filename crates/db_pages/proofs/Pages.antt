@@ -15,8 +15,8 @@ use Rattle.std.proofs.lemmas.Bool.Decides.{nat_tests}
 use Rattle.std.proofs.lemmas.List.Sums.{sum_by-cons}
 use Rattle.std.proofs.Common.{sum_by, ◌⊎◌, inr, ◌≢◌, zero, ◌<◌}
 use Rattle.sqlite_format.specs.Page.{content_start, cell_end, IsPage, HasFreeChain, IsTiled, free_total, first_freeblock, fragments}
-use Rattle.db_records.specs.Page.{joined, places, content_at, leaf_page}
-use Rattle.db_records.specs.Laws.{leaf_kind, HoldsCells}
+use Rattle.db_pages.specs.Page.{joined, places, content_at, leaf_page}
+use Rattle.db_pages.specs.Laws.{leaf_kind, HoldsCells}
 
 pub length-places : (at : ℕ) (cells : List (List ℕ)) → length (places at cells) ≡ 2 * length cells
 length-places at [] = refl
