@@ -1,16 +1,27 @@
 -- Rows of scans and rejects, one after another.
 use Rattle.std.proofs.Common.{◌≡◌, ℕ, suc, ◌+◌, ◌<◌, List, [], ◌∷◌, ◌++◌, length, map, take, drop, get_or, sym, ◌∙◌, ap, arith, append-nil, drop-cons, subst, All, Some}
-use Rattle.std.specs.Prelude.{slice_get}
+use Rattle.std.specs.Prelude.{Bool, true, false, if◌then◌else◌, slice_get}
+use Rattle.std.specs.Str.{is_utf8}
 use Rattle.std.proofs.lemmas.List.{map-append, take_more}
 use Rattle.std.proofs.lemmas.List.Elements.{All-append, All-cons, All-push}
 use Rattle.std.proofs.lemmas.Grind.{flat_map-append}
+use Rattle.sqlite_value.specs.declared.value.Value.TheVariants as stored
 use Rattle.sqlite_value.specs.Order.{Row}
 use Rattle.csv_sniffer.specs.declared.found.Sniffed.{Sniffed}
 use Rattle.file_list.specs.declared.batch.FileBook.{FileBook}
 use Rattle.db_records.specs.Record.{IsWritable, record_bytes}
 use Rattle.db_writer.specs.Rejects.{reject_row, reject_rows, scan_row, scan_rows}
+use Rattle.db_writer.specs.Stored.{text_or_blob}
 use Rattle.db_writer.specs.Written.{Written, with_records}
 use Rattle.db_writer.proofs.RowsLaid.{records-append, take-at}
+
+-- what is UTF-8 is stored as a text, and what isn't as a blob
+bytes-stored : (utf8 : Bool) (bytes : List ℕ) → IsWritable (if utf8 then stored.Text bytes else stored.Blob bytes)
+bytes-stored true bytes = tt
+bytes-stored false bytes = tt
+
+pub bytes-writable : (bytes : List ℕ) → IsWritable (text_or_blob bytes)
+bytes-writable bytes = bytes-stored (is_utf8 bytes) bytes
 
 -- the row of one thing was appended to those before
 pub one-appended : {X : Type 0} (f : X → Row) (xs : List X) (k : ℕ) (x : X) (w into new : Written) → slice_get xs k ≡ Some x → into ≡ with_records w (map record_bytes (map f (take k xs))) →

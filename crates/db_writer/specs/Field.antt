@@ -1,14 +1,16 @@
--- The values of scans and rejects, as they are written.
+-- The values of rejects, as they are written.
 use Rattle.std.specs.Prelude.{pos}
-use Rattle.std.specs.Option.{option_to_list}
 use Rattle.sqlite_value.specs.declared.value.Value.{Value}
 use Rattle.sqlite_value.specs.declared.value.Value.TheVariants as stored
-use Rattle.db_writer.specs.declared.fields.Field.{Field}
-use Rattle.db_writer.specs.declared.fields.Field.TheVariants.{Number, Text, Bytes, Mark}
+use Rattle.reject_book.specs.declared.fields.RejectField.{RejectField}
+use Rattle.reject_book.specs.Fields.{Field, number, text, bytes, field_of}
 use Rattle.db_writer.specs.Stored.{text_or_blob}
 
-abbrev pub field_value : Field → Value
-field_value (Number number) = stored.Int (pos number)
-field_value (Text text) = stored.Text text.now
-field_value (Bytes bytes) = text_or_blob bytes.now
-field_value (Mark mark) = stored.Text (option_to_list mark)
+abbrev pub stored_field : Field → Value
+stored_field (number n) = stored.Int (pos n)
+stored_field (text t) = stored.Text t
+stored_field (bytes b) = text_or_blob b
+
+-- of a field that borrows its bytes
+abbrev pub field_value : RejectField → Value
+field_value field = stored_field (field_of field)

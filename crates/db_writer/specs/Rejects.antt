@@ -8,9 +8,10 @@ use Rattle.csv_sniffer.specs.declared.found.Newline.{Newline}
 use Rattle.csv_sniffer.specs.declared.found.Newline.TheVariants as newline
 use Rattle.csv_sniffer.specs.declared.found.Sniffed.{Sniffed}
 use Rattle.reject_book.specs.declared.reject.Reject.{Reject}
-use Rattle.reject_book.specs.Kind.{name_of_kind}
+use Rattle.reject_book.specs.Fields.{fields_of}
 use Rattle.file_list.specs.declared.batch.FileBook.{FileBook}
 use Rattle.db_records.specs.Record.{IsWritable}
+use Rattle.db_writer.specs.Field.{stored_field}
 use Rattle.db_writer.specs.Stored.{text_or_blob}
 
 -- the bytes of a line end, or what stands in their place
@@ -28,9 +29,7 @@ scan_row s file_id file =
     ∷ Text (newline_bytes s.newline) ∷ Int (pos s.skip) ∷ Text (truth_text s.header) ∷ Int (pos (length s.types)) ∷ []
 
 abbrev pub reject_row : Reject → Row
-reject_row r =
-    Int (pos r.scan_id) ∷ Int (pos r.file_id) ∷ Int (pos r.line) ∷ Int (pos r.line_byte_position) ∷ Int (pos r.byte_position) ∷ Int (pos r.column_idx)
-    ∷ text_or_blob r.column_name ∷ Text (name_of_kind r.error_type) ∷ text_or_blob r.csv_line ∷ text_or_blob r.error_message ∷ []
+reject_row r = map stored_field (fields_of r)
 
 -- the scans of files from a number on
 abbrev pub scan_rows : Sniffed → ℕ → List FileBook → List Row

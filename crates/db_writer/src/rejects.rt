@@ -5,12 +5,12 @@ ghost use Rattle.db_records.specs.Record.{IsWritable, record_bytes};
 ghost use Rattle.db_writer.specs.Rejects.{newline_bytes, reject_row, reject_rows, scan_row, scan_rows};
 ghost use Rattle.db_writer.specs.Written.{no_values, with_records};
 
-use crate::fields::{Field, push_fields};
+use crate::fields::{push_fields, push_mark};
 use crate::row_writer::RowWriter;
 use csv_sniffer::{Newline, Sniffed};
 use csv_source::NoMemory;
 use file_list::FileBook;
-use reject_book::{Book, Reject, kind_name};
+use reject_book::{Book, Reject};
 
 /// The bytes of a line end, or what stands in their place.
 fn newline_bytes(newline: Newline) -> &'static [u8]
@@ -46,21 +46,17 @@ fn push_scan(
     ensures ok { OnOk result (writer.new ≡ with_records writer.old (record_bytes (scan_row sniffed.now file_id file.now) ∷ [])) }
     ensures counted { OnOk result (All IsWritable (scan_row sniffed.now file_id file.now)) }
 {
-    push_fields(
-        writer,
-        &[
-            Field::Number(0),
-            Field::Number(file_id),
-            Field::Bytes(file),
-            Field::Mark(Some(sniffed.dialect.delim())),
-            Field::Mark(sniffed.dialect.quote()),
-            Field::Mark(sniffed.dialect.escape()),
-            Field::Text(newline_bytes(sniffed.newline)),
-            Field::Number(sniffed.skip),
-            Field::Text(truth_text(sniffed.header)),
-            Field::Number(sniffed.types.len() as u64),
-        ],
-    )
+    writer.push_count(0)?;
+    writer.push_count(file_id)?;
+    writer.push_bytes(file)?;
+    push_mark(writer, Some(sniffed.dialect.delim()))?;
+    push_mark(writer, sniffed.dialect.quote())?;
+    push_mark(writer, sniffed.dialect.escape())?;
+    writer.push_text(newline_bytes(sniffed.newline))?;
+    writer.push_count(sniffed.skip)?;
+    writer.push_text(truth_text(sniffed.header))?;
+    writer.push_count(sniffed.types.len() as u64)?;
+    writer.end_row()
 }
 
 /// Appends a reject.
@@ -69,21 +65,9 @@ fn push_reject(writer: &mut RowWriter, reject: &Reject) -> Result<(), NoMemory>
     ensures ok { OnOk result (writer.new ≡ with_records writer.old (record_bytes (reject_row reject.now) ∷ [])) }
     ensures counted { OnOk result (All IsWritable (reject_row reject.now)) }
 {
-    push_fields(
-        writer,
-        &[
-            Field::Number(reject.scan_id),
-            Field::Number(reject.file_id),
-            Field::Number(reject.line),
-            Field::Number(reject.line_byte_position),
-            Field::Number(reject.byte_position),
-            Field::Number(reject.column_idx),
-            Field::Bytes(reject.column_name.as_slice()),
-            Field::Text(kind_name(reject.error_type).as_bytes()),
-            Field::Bytes(reject.csv_line.as_slice()),
-            Field::Bytes(reject.error_message.as_slice()),
-        ],
-    )
+    let fields = reject.fields();
+    push_fields(writer, &fields)?;
+    writer.end_row()
 }
 
 /// Appends the scans of files, whose numbers are their places.

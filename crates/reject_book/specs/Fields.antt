@@ -5,7 +5,7 @@ use Rattle.reject_book.specs.declared.fields.RejectField.TheVariants as lent
 use Rattle.reject_book.specs.declared.reject.Reject.{Reject}
 use Rattle.reject_book.specs.Kind.{name_of_kind}
 
--- a number, a text, or bytes that need not be UTF-8
+-- a number, a name that this program gives, or bytes that need not be UTF-8
 pub data Field : Type 0 where
   number : ℕ → Field
   text : List ℕ → Field

@@ -8,9 +8,9 @@ use crate::reject::{Reject, kind_name};
 #[derive(Clone, Copy)]
 pub enum RejectField<'a> {
     Number(u64),
-    /// Bytes that are UTF-8.
+    /// A name that this program gives.
     Text(&'a [u8]),
-    /// Bytes of the input, or a message that holds some: they need not be UTF-8.
+    /// Bytes of the input, or a message that may hold some: they need not be UTF-8.
     Bytes(&'a [u8]),
 }
 

@@ -6,11 +6,11 @@ use Rattle.reject_book.specs.declared.fields.RejectField.{RejectField}
 use Rattle.reject_book.specs.Fields.{Field, number, text, bytes, field_of}
 
 -- the decimal digits of a number, bytes as they are
-abbrev pub field_text : Field → List ℕ
-field_text (number n) = decimal n
-field_text (text t) = t
-field_text (bytes b) = b
+abbrev pub plain_field : Field → List ℕ
+plain_field (number n) = decimal n
+plain_field (text t) = t
+plain_field (bytes b) = b
 
 -- by the rule for texts
 abbrev pub written_field : RejectField → List ℕ
-written_field field = text_field (field_text (field_of field))
+written_field field = text_field (plain_field (field_of field))

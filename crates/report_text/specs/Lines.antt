@@ -89,13 +89,13 @@ scan_line s file_id file = line_of
     ∷ [])
 
 -- a number in decimal digits, a text as it is, bytes as they are shown
-abbrev pub field_text : Field → List ℕ
-field_text (fields.number n) = decimal n
-field_text (fields.text t) = t
-field_text (fields.bytes b) = shown b
+abbrev pub shown_field : Field → List ℕ
+shown_field (fields.number n) = decimal n
+shown_field (fields.text t) = t
+shown_field (fields.bytes b) = shown b
 
 abbrev pub error_line : Reject → List ℕ
-error_line r = line_of (codes "error" ∷ map field_text (fields_of r))
+error_line r = line_of (codes "error" ∷ map shown_field (fields_of r))
 
 abbrev pub errors_line : ℕ → ℕ → List ℕ
 errors_line stored all = line_of (codes "errors" ∷ decimal stored ∷ decimal all ∷ [])

@@ -1,21 +1,21 @@
-use Rattle.std.proofs.Common.{◌≡◌, [], ◌∷◌, ◌∙◌, subst, pos, All}
-use Rattle.std.specs.Prelude.{OnOk}
-use Rattle.sqlite_value.specs.declared.value.Value.TheVariants.{Int, Text}
-use Rattle.sqlite_value.specs.Order.{Row}
-use Rattle.db_records.specs.Record.{IsWritable, record_bytes}
-use Rattle.db_writer.specs.Stored.{text_or_blob}
-use Rattle.db_writer.specs.Written.{with_records}
+use Rattle.std.proofs.Common.{◌≡◌, List, ap, map, subst, sym, ◌∙◌, All}
+use Rattle.std.proofs.lemmas.Result.{on_ok_weaker}
+use Rattle.std.proofs.lemmas.Simd.{map-map}
+use Rattle.db_records.specs.Record.{IsWritable}
+use Rattle.reject_book.specs.declared.fields.RejectField.{RejectField}
+use Rattle.reject_book.specs.Fields.{field_of}
+use Rattle.db_writer.specs.Field.{field_value, stored_field}
+use Rattle.db_writer.specs.Rejects.{reject_row}
+use Rattle.db_writer.specs.Written.{with_values}
+use Rattle.db_writer.proofs.RowsLaid.{row-ended}
 use Rattle.db_writer.proofs.rejects.push_reject.Goals as goal
 
 pub returns : goal.returns
 returns c =
-    let r = c.args.reject.now in record {
-      ok = subst (λ (row : Row). OnOk c.push_fields.result (c.push_fields.new.writer ≡ with_records c.args.writer.now (record_bytes row ∷ [])))
-          (λ i. Int (pos r.scan_id) ∷ Int (pos r.file_id) ∷ Int (pos r.line) ∷ Int (pos r.line_byte_position) ∷ Int (pos r.byte_position) ∷ Int (pos r.column_idx)
-          ∷ text_or_blob (c.as_slice.ensures i) ∷ Text ((c.as_bytes.ensures.value ∙ c.kind_name.ensures) i) ∷ text_or_blob (c.as_slice-2.ensures i) ∷ text_or_blob (c.as_slice-3.ensures i) ∷ [])
-          c.push_fields.ensures.ok;
-      counted = subst (λ (row : Row). OnOk c.push_fields.result (All IsWritable row))
-          (λ i. Int (pos r.scan_id) ∷ Int (pos r.file_id) ∷ Int (pos r.line) ∷ Int (pos r.line_byte_position) ∷ Int (pos r.byte_position) ∷ Int (pos r.column_idx)
-          ∷ text_or_blob (c.as_slice.ensures i) ∷ Text ((c.as_bytes.ensures.value ∙ c.kind_name.ensures) i) ∷ text_or_blob (c.as_slice-2.ensures i) ∷ text_or_blob (c.as_slice-3.ensures i) ∷ [])
-          c.push_fields.ensures.counted;
+    let w = c.args.writer.now in
+    let fields : List RejectField = c.fields-fields.result in
+    let row : map field_value fields ≡ reject_row c.args.reject.now = sym (map-map stored_field field_of fields) ∙ ap (map stored_field) c.fields-fields.ensures.value in
+    record {
+      ok = on_ok_weaker c.end_row.result (λ out. row-ended w c.push_fields.new.writer c.end_row.new.self (reject_row c.args.reject.now) c.requires.none (c.in_ok-push_fields.ensures.ok ∙ ap (with_values w) row) out) c.end_row.ensures.ok;
+      counted = on_ok_weaker c.end_row.result (λ _. subst (All IsWritable) row c.in_ok-push_fields.ensures.counted) c.end_row.ensures.ok;
     }
