@@ -22,8 +22,9 @@ const BLOCK_ROWS: usize = 65_536;
 /// The blocks of the first round are so many times smaller, so that the writing begins soon.
 const FIRST: usize = 4;
 
-/// So many blocks a round has for each worker, so that one that is slow makes fewer of them, and the others more.
-const SHARE: usize = 4;
+/// So many blocks a round has for each worker, so that one that is slow makes fewer of them, and the others more, and that the
+/// end of a round, where workers wait for the last one, comes seldom.
+const SHARE: usize = 8;
 
 /// So many blocks a desk has: half of the workers can make a whole round, and what they hold grows with their number alone.
 const BLOCKS: usize = 2 * SHARE;

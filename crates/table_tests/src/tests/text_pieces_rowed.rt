@@ -134,11 +134,22 @@ fn few_rows_want_their_memory_before_the_first_byte(rt: HostRuntime) -> Result<(
     Ok(())
 }
 
-/// The bytes that are taken before each write of a head, of eleven rows in a round of eight blocks and another, and of a tail: the
-/// rows of the second round are two to a block, or one where those of the first couldn't be made.
+/// The bytes that are taken before each write of a head, of twenty-six rows in a round of sixteen blocks and another, and of a
+/// tail: the rows of the second round are two to a block, or one where those of the first couldn't be made.
 const TAKEN: [(bool, &[usize]); 2] = [
-    (false, &[0, 1, 2, 3, 4, 5, 6, 7, 8, 9, 11, 12]),
-    (true, &[0, 1, 2, 3, 4, 5, 6, 7, 8, 9, 10, 11, 12]),
+    (
+        false,
+        &[
+            0, 1, 2, 3, 4, 5, 6, 7, 8, 9, 10, 11, 12, 13, 14, 15, 16, 17, 19, 21, 23, 25, 27,
+        ],
+    ),
+    (
+        true,
+        &[
+            0, 1, 2, 3, 4, 5, 6, 7, 8, 9, 10, 11, 12, 13, 14, 15, 16, 17, 18, 19, 20, 21, 22, 23,
+            24, 25, 26, 27,
+        ],
+    ),
 ];
 
 #[test]
@@ -149,7 +160,7 @@ fn a_write_that_fails_leaves_those_before(rt: HostRuntime) -> Result<(), NoMemor
         alloc,
         threads: 2,
     };
-    let (letters, wanted) = WANTED[5];
+    let (letters, wanted) = WANTED[6];
     for (refused, lengths) in TAKEN {
         let mut number: u64 = 0;
         for &length in lengths {
