@@ -39,14 +39,13 @@ fn draw(rt: &impl Abort, board: &Board, drawer: &mut Drawer, counter: &mut u64)
     *counter = NUMBERS.min(counter.wrapping_add(1));
 }
 
-// The drawers take so many turns, in an order that the seed names.
+// The drawers take turns, as many and in an order as the seed names.
 fn take_turns(
     rt: &impl Abort,
     board: &Board,
     first: &mut Drawer,
     others: &mut [Drawer],
     seed: u64,
-    turns: u64,
 ) -> u64
     requires first { first.old.board ≡ board.now }
     requires others { All (λ d. d.board ≡ board.now) others.old }
@@ -54,7 +53,7 @@ fn take_turns(
     ensures others { All (λ d. d.board ≡ board.now) others.new }
 {
     let mut counter = 0;
-    for turn in 0..turns {
+    for turn in 0..seed % 200 {
         let number = seed.wrapping_add(turn).wrapping_mul(2_654_435_761) % (1 << 32);
         let drawer = (number / 16 % 64) as usize;
         if drawer < others.len() {
@@ -81,7 +80,7 @@ fn join_all(board: &Board, first: &mut Drawer, mut others: Vec<Drawer>)
 fn run_order(rt: &impl Abort, alloc: Global, seed: u64) -> Result<(), NoMemory> {
     let (board, mut first) = Board::new(alloc, NUMBERS)?;
     let mut others = split_off(alloc, &board, &mut first)?;
-    let drawn = take_turns(rt, &board, &mut first, &mut others, seed, seed % 200);
+    let drawn = take_turns(rt, &board, &mut first, &mut others, seed);
     join_all(&board, &mut first, others);
     assert_eq!(rt; board.close(first), drawn);
     Ok(())

@@ -42,19 +42,26 @@ fn push_verdict(verdict: &Verdict, out: &mut Vec<u8>) -> Result<(), NoMemory> {
     }
 }
 
-// The verdict of the row that begins at `from`, on this line.
+// A row of a text: where it begins, and on which line.
+#[derive(Clone, Copy)]
+struct Row<'a> {
+    text: &'a [u8],
+    from: usize,
+    line: u64,
+}
+
+// The verdict of a row.
 fn judged(
     rt: &impl Abort,
     alloc: Global,
     dialect: &Dialect,
     schema: &Schema,
-    text: &[u8],
-    from: usize,
-    line: u64,
+    row: Row<'_>,
 ) -> Result<Verdict, NoMemory>
-    requires within { from < length text.now }
-    requires room { length text.now < 2 ^ 32 }
+    requires within { row.from < length row.text.now }
+    requires room { length row.text.now < 2 ^ 32 }
 {
+    let Row { text, from, line } = row;
     let place = RowPlace {
         scan_id: 0,
         file_id: 0,
@@ -66,19 +73,13 @@ fn judged(
     judge_row(alloc, dialect, schema, text, from, end, &place)
 }
 
-fn shown(
-    rt: &impl Abort,
-    alloc: Global,
-    kind: Kind,
-    text: &[u8],
-    from: usize,
-    line: u64,
-) -> Result<Vec<u8>, NoMemory>
-    requires within { from < length text.now }
-    requires room { length text.now < 2 ^ 32 }
+// The verdict of a row as a text.
+fn shown(rt: &impl Abort, alloc: Global, kind: Kind, row: Row<'_>) -> Result<Vec<u8>, NoMemory>
+    requires within { row.from < length row.text.now }
+    requires room { length row.text.now < 2 ^ 32 }
 {
     let schema = schema(alloc, kind)?;
-    let verdict = judged(rt, alloc, &commas(rt), &schema, text, from, line)?;
+    let verdict = judged(rt, alloc, &commas(rt), &schema, row)?;
     let mut out = Vec::new(alloc);
     push_verdict(&verdict, &mut out)?;
     Ok(out)
@@ -161,7 +162,8 @@ const CASES: [Case; 14] = [
 fn check_case(rt: &impl Abort, alloc: Global, case: &Case) -> Result<(), NoMemory> {
     let (text, from) = (case.1.as_bytes(), case.2);
     assert!(rt; from < text.len() && text.len() < 1000);
-    let shown = shown(rt, alloc, case.0, text, from, case.3)?;
+    let line = case.3;
+    let shown = shown(rt, alloc, case.0, Row { text, from, line })?;
     assert_eq!(rt; shown.as_slice(), case.4.as_bytes());
     Ok(())
 }
@@ -176,9 +178,13 @@ fn rows_are_judged(rt: HostRuntime) -> Result<(), Fail> {
 
 #[test]
 fn the_first_byte_that_is_not_utf8_is_told(rt: HostRuntime) -> Result<(), Fail> {
-    let text = b"a\n\xC3(\n";
+    let row = Row {
+        text: b"a\n\xC3(\n",
+        from: 2,
+        line: 2,
+    };
     let want = b"|2|3|3|1|column0|INVALID UNICODE|\xC3(|Invalid unicode detected";
-    let shown = shown(&rt, rt.alloc(), Kind::Short, text, 2, 2)?;
+    let shown = shown(&rt, rt.alloc(), Kind::Short, row)?;
     assert_eq!(rt; shown.as_slice(), want.as_slice());
     Ok(())
 }
@@ -186,7 +192,12 @@ fn the_first_byte_that_is_not_utf8_is_told(rt: HostRuntime) -> Result<(), Fail> 
 #[test]
 fn a_book_takes_all_rejects_of_a_row(rt: HostRuntime) -> Result<(), Fail> {
     let pair = schema(rt.alloc(), Kind::Pair)?;
-    let verdict = judged(&rt, rt.alloc(), &commas(&rt), &pair, b"x,y", 0, 1)?;
+    let row = Row {
+        text: b"x,y",
+        from: 0,
+        line: 1,
+    };
+    let verdict = judged(&rt, rt.alloc(), &commas(&rt), &pair, row)?;
     let Verdict::Faulty(rejects) = verdict else {
         panic!(rt; "neither letter is a number");
     };

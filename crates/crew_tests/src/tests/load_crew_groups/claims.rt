@@ -1,6 +1,6 @@
 //! Who claims which range, and how often each is scanned.
 
-use super::reader::{Manner, tally_by};
+use super::reader::{Reading, tally_by};
 use csv_source::Gate;
 use quote_automaton::State;
 use std::sync::atomic::{AtomicU64, Ordering};
@@ -77,14 +77,14 @@ fn each_range_is_claimed_once_and_scanned_again_where_it_differs(
 ) -> Result<(), Fail> {
     for threads in [1u32, 2, 4] {
         let gate = Counting::new();
-        let manner = Manner {
+        let reading = Reading {
+            text: b"x,5\"y\n1,2\n",
             range_size: 2,
             first: State::RowStart,
             stop: false,
             threads,
         };
-        let text = b"x,5\"y\n1,2\n";
-        let tally = tally_by(&rt, rt.alloc(), ColumnType::Varchar, text, manner, &gate)?;
+        let tally = tally_by(&rt, rt.alloc(), ColumnType::Varchar, reading, &gate)?;
         assert_eq!(rt; (tally.rows, tally.rejects), (2, 0));
         assert_eq!(rt; (tally.rescans, tally.rescanned), (2, 4));
         // Each is scanned in its guess, range 1 once more in FieldStart and range 2 in Plain.
@@ -130,14 +130,14 @@ fn another_worker_claims_while_the_first_range_is_scanned(rt: HostRuntime) -> Re
         claimer: AtomicU64::new(0),
         in_time: AtomicU64::new(0),
     };
-    let manner = Manner {
+    let reading = Reading {
+        text: b"1,2\n3,4\n",
         range_size: 4,
         first: State::RowStart,
         stop: false,
         threads: 2,
     };
-    let text = b"1,2\n3,4\n";
-    let tally = tally_by(&rt, rt.alloc(), ColumnType::Bigint, text, manner, &gate)?;
+    let tally = tally_by(&rt, rt.alloc(), ColumnType::Bigint, reading, &gate)?;
     assert_eq!(rt; tally.rows, 2);
     assert_eq!(rt; gate.in_time.load(Ordering::SeqCst), 1);
     Ok(())

@@ -1,6 +1,6 @@
 //! A text most of whose ranges are guessed wrong, read by many workers, many times.
 
-use super::reader::{Manner, Tally, read_by, tally_of};
+use super::reader::{Reading, Tally, read_by, tally_of};
 use crate::tests::contexts::{commas, context_of};
 use csv_source::{NoMemory, OpenGate};
 use load_crew::GroupRead;
@@ -62,14 +62,15 @@ fn read_with<R: Threads + Sync + Abort>(
     text: &[u8],
     threads: u32,
 ) -> Result<(Tally, u64), NoMemory> {
-    let manner = Manner {
+    let reading = Reading {
+        text,
         range_size: 4,
         first: State::RowStart,
         stop: false,
         threads,
     };
     let context = context_of(alloc, commas(rt), ColumnType::Bigint, 100, false)?;
-    let read = read_by(rt, alloc, &context, text, manner, &OpenGate)?;
+    let read = read_by(rt, alloc, &context, reading, &OpenGate)?;
     Ok((tally_of(&read), digest_of(&read)))
 }
 

@@ -13,10 +13,11 @@ use std::process::Abort;
 use std::thread::Threads;
 use value_types::ColumnType;
 
-/// The length of a range, the state in which the text opens, whether the reading stops at a bad range, and how many workers
-/// there are at most.
+/// A text, the length of a range, the state in which the text opens, whether the reading stops at a bad range, and how many
+/// workers there are at most.
 #[derive(Clone, Copy)]
-pub struct Manner {
+pub struct Reading<'a> {
+    pub text: &'a [u8],
     pub range_size: u64,
     pub first: State,
     pub stop: bool,
@@ -41,18 +42,18 @@ pub fn read_by<R: Threads + Sync + Abort, G: Gate>(
     rt: &R,
     alloc: Global,
     context: &Context,
-    text: &[u8],
-    manner: Manner,
+    reading: Reading<'_>,
     gate: &G,
 ) -> Result<GroupRead, NoMemory>
     requires { HasColumns context.now.schema }
 {
-    let Manner {
+    let Reading {
+        text,
         range_size,
         first,
         stop,
         threads,
-    } = manner;
+    } = reading;
     assert!(rt; text.len() < 1000 && range_size > 0);
     assert!(rt; 1 <= threads && threads <= 64);
     let group = Group {
@@ -116,11 +117,10 @@ pub fn tally_by<R: Threads + Sync + Abort, G: Gate>(
     rt: &R,
     alloc: Global,
     first: ColumnType,
-    text: &[u8],
-    manner: Manner,
+    reading: Reading<'_>,
     gate: &G,
 ) -> Result<Tally, NoMemory> {
     let context = context_of(alloc, commas(rt), first, 100, false)?;
-    let read = read_by(rt, alloc, &context, text, manner, gate)?;
+    let read = read_by(rt, alloc, &context, reading, gate)?;
     Ok(tally_of(&read))
 }

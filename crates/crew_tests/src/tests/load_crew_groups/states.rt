@@ -1,6 +1,6 @@
 //! Each range is joined in its true state, whatever its guess.
 
-use super::reader::{Manner, Tally, tally_by};
+use super::reader::{Reading, Tally, tally_by};
 use csv_source::OpenGate;
 use quote_automaton::State;
 use std::test::Fail;
@@ -92,14 +92,15 @@ const BAD_ROWS: Case = Case {
 fn ranges_are_read_in_their_true_states(rt: HostRuntime) -> Result<(), Fail> {
     for case in [OVER_LINES, OPENED_IN_QUOTES, NOT_CLOSED, BAD_ROWS] {
         for threads in [1u32, 2, 64] {
-            let manner = Manner {
+            let reading = Reading {
+                text: case.text,
                 range_size: case.range_size,
                 first: case.first,
                 stop: case.stop,
                 threads,
             };
             let bigint = ColumnType::Bigint;
-            let tally = tally_by(&rt, rt.alloc(), bigint, case.text, manner, &OpenGate)?;
+            let tally = tally_by(&rt, rt.alloc(), bigint, reading, &OpenGate)?;
             assert_eq!(rt; tally, case.tally);
         }
     }
@@ -119,14 +120,15 @@ fn a_text_comes_to_the_same_however_it_is_cut(rt: HostRuntime) -> Result<(), Fai
     for case in [OVER_LINES, OPENED_IN_QUOTES, NOT_CLOSED, BAD_ROWS] {
         for range_size in 1..=16u64 {
             for threads in [1u32, 2, 64] {
-                let manner = Manner {
+                let reading = Reading {
+                    text: case.text,
                     range_size,
                     first: case.first,
                     stop: case.stop,
                     threads,
                 };
                 let bigint = ColumnType::Bigint;
-                let tally = tally_by(&rt, rt.alloc(), bigint, case.text, manner, &OpenGate)?;
+                let tally = tally_by(&rt, rt.alloc(), bigint, reading, &OpenGate)?;
                 assert_eq!(rt; read_of(tally), read_of(case.tally), "in {range_size}");
             }
         }

@@ -1,6 +1,6 @@
 //! A reading that stops at the first bad range.
 
-use super::reader::{Manner, Tally, tally_by};
+use super::reader::{Reading, Tally, tally_by};
 use csv_source::OpenGate;
 use quote_automaton::State;
 use std::test::Fail;
@@ -12,7 +12,8 @@ const TEXT: &[u8] = b"1,a\n2,\"\nb,\"\n3,c\nx,4\n5,e\ny,6\n7,g\n";
 #[test]
 fn the_reading_ends_behind_the_first_bad_range(rt: HostRuntime) -> Result<(), Fail> {
     for threads in [1u32, 2, 4, 8] {
-        let manner = Manner {
+        let reading = Reading {
+            text: TEXT,
             range_size: 4,
             first: State::RowStart,
             stop: true,
@@ -29,7 +30,7 @@ fn the_reading_ends_behind_the_first_bad_range(rt: HostRuntime) -> Result<(), Fa
             rescanned: 4,
         };
         let bigint = ColumnType::Bigint;
-        let tally = tally_by(&rt, rt.alloc(), bigint, TEXT, manner, &OpenGate)?;
+        let tally = tally_by(&rt, rt.alloc(), bigint, reading, &OpenGate)?;
         assert_eq!(rt; tally, want, "by {threads}");
     }
     Ok(())

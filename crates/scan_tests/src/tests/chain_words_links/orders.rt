@@ -5,7 +5,7 @@ ghost use Rattle.chain_words.specs.Worked.{IsReady};
 
 use super::plain::PlainChain;
 use super::walker::{RANGES, Walker, guessed, rescanned};
-use chain_words::Chain;
+use chain_words::{Chain, Front};
 use csv_source::NoMemory;
 use std::alloc::Global;
 use std::process::Abort;
@@ -56,29 +56,30 @@ fn split_off(alloc: Global, chain: &Chain, first: &mut Walker) -> Result<Vec<Wal
     Ok(others)
 }
 
-// The links take 256 turns, in an order that the seed names.
+// The links take 256 turns, in an order that the seed names. Answers where the plain chain's front is then.
 fn take_turns(
     rt: &impl Abort,
     chain: &Chain,
     first: &mut Walker,
     others: &mut [Walker],
-    plain: &mut PlainChain,
     seed: u64,
-)
+) -> Front
     requires first { IsReady chain.now first.old.link first.old.kept first.old.duty }
     requires others { All (λ w. IsReady chain.now w.link w.kept w.duty) others.old }
     ensures first { IsReady chain.now first.new.link first.new.kept first.new.duty }
     ensures others { All (λ w. IsReady chain.now w.link w.kept w.duty) others.new }
 {
+    let mut plain = PlainChain::new();
     for turn in 0..256 {
         let number = seed.wrapping_add(turn).wrapping_mul(2_654_435_761) % (1 << 32);
         let link = (number / 16 % 4) as usize;
         if link < others.len() {
-            take_turn(rt, chain, &mut others[link], plain, number);
+            take_turn(rt, chain, &mut others[link], &mut plain, number);
         } else {
-            take_turn(rt, chain, first, plain, number);
+            take_turn(rt, chain, first, &mut plain, number);
         }
     }
+    plain.front
 }
 
 // All links are joined into the first.
@@ -97,11 +98,10 @@ fn join_all(chain: &Chain, first: &mut Walker, mut others: Vec<Walker>)
 // Four links go through one order, and the front is the plain one in the end.
 fn run_order(rt: &impl Abort, alloc: Global, seed: u64) -> Result<(), NoMemory> {
     let (chain, mut first) = Walker::first(alloc)?;
-    let mut plain = PlainChain::new();
     let mut others = split_off(alloc, &chain, &mut first)?;
-    take_turns(rt, &chain, &mut first, &mut others, &mut plain, seed);
+    let front = take_turns(rt, &chain, &mut first, &mut others, seed);
     join_all(&chain, &mut first, others);
-    assert_eq!(rt; first.close(chain), plain.front);
+    assert_eq!(rt; first.close(chain), front);
     Ok(())
 }
 
