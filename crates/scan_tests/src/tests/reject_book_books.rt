@@ -55,7 +55,11 @@ fn a_book_is_appended_behind_some_lines(rt: HostRuntime) -> Result<(), Fail> {
     append_book(&mut book, other, 5)?;
     assert!(rt; book.len() == 1);
     assert_eq!(rt; book.get(0).line, 7);
+    Ok(())
+}
+
+#[test]
+fn lines_are_added_up_to_the_largest_number(rt: HostRuntime) {
     assert_eq!(rt; sum_of(2, 3), Ok(5));
     assert!(rt; sum_of(u64::MAX, 1).is_err());
-    Ok(())
 }

@@ -1,6 +1,6 @@
 //! The commands, their files, and the numbers that options take.
-use super::words::{accepted, words_of};
-use load_options::{Allowed, Command, allowed_texts, command_of, parse_words, pieces_of, word_at};
+use super::words::{accepted, is_accepted, repeated, words_of};
+use load_options::{Allowed, Command, allowed_texts, command_of, pieces_of, word_at};
 use std::alloc::Global;
 use std::process::Abort;
 use std::test::Fail;
@@ -34,34 +34,51 @@ fn words_name_a_command(rt: HostRuntime) -> Result<(), Fail> {
     Ok(())
 }
 
+/// A line, whether rejects are stored, whether faults are passed over, how many at most, and the threads.
+struct Loading(&'static str, bool, bool, Option<u64>, u32);
+
+const LOADING: [Loading; 3] = [
+    Loading("convert f.csv comment=# threads=8", false, false, None, 8),
+    Loading(
+        "batch a.csv,b.csv store_rejects=true threads=2",
+        true,
+        false,
+        None,
+        2,
+    ),
+    Loading(
+        "rejects f.csv max_errors=2 threads=1",
+        true,
+        false,
+        Some(2),
+        1,
+    ),
+];
+
+fn check_loading(rt: &impl Abort, alloc: Global, row: &Loading) -> Result<(), Fail> {
+    let options = accepted(rt, alloc, row.0)?.options;
+    assert_eq!(rt; options.store_rejects, row.1, "{}", row.0);
+    assert_eq!(rt; options.ignore_errors, row.2, "{}", row.0);
+    assert_eq!(rt; options.max_errors, row.3, "{}", row.0);
+    assert_eq!(rt; options.threads, row.4, "{}", row.0);
+    Ok(())
+}
+
 #[test]
 fn commands_take_the_options_of_load(rt: HostRuntime) -> Result<(), Fail> {
-    let converted = accepted(&rt, rt.alloc(), "convert f.csv comment=# threads=8")?;
-    assert_eq!(rt; converted.options.threads, 8);
-    let several = accepted(&rt, rt.alloc(), "batch a.csv,b.csv store_rejects=true")?;
-    assert!(rt; several.options.store_rejects);
-    let listed = accepted(&rt, rt.alloc(), "rejects f.csv max_errors=2")?;
-    assert!(rt; listed.options.store_rejects && !listed.options.ignore_errors);
-    assert_eq!(rt; listed.options.max_errors, Some(2));
-    Ok(())
-}
-
-fn check_file_count(rt: &impl Abort, alloc: Global, count: usize, good: bool) -> Result<(), Fail> {
-    let mut line = String::new(alloc);
-    line.push_str("batch a")?;
-    for _ in 1..count {
-        line.push_str(",a")?;
+    for row in &LOADING {
+        check_loading(&rt, rt.alloc(), row)?;
     }
-    let words = words_of(alloc, &line)?;
-    assert_eq!(rt; parse_words(alloc, &words).is_ok(), good, "{count}");
     Ok(())
 }
 
-/// Up to 1,000 names may come.
 #[test]
-fn a_batch_names_files(rt: HostRuntime) -> Result<(), Fail> {
-    check_file_count(&rt, rt.alloc(), 1_000, true)?;
-    check_file_count(&rt, rt.alloc(), 1_001, false)
+fn a_batch_names_up_to_1000_files(rt: HostRuntime) -> Result<(), Fail> {
+    let most = repeated(rt.alloc(), "batch a", ",a", 999)?;
+    assert!(rt; is_accepted(rt.alloc(), &most)?);
+    let more = repeated(rt.alloc(), "batch a", ",a", 1_000)?;
+    assert!(rt; !is_accepted(rt.alloc(), &more)?);
+    Ok(())
 }
 
 /// An option by the words before it and its name, and the ends of its range with one past each.
@@ -99,8 +116,7 @@ fn check_number(
     good: bool,
 ) -> Result<(), Fail> {
     let line = format!(in alloc; "{front}{number}")?;
-    let words = words_of(alloc, &line)?;
-    assert_eq!(rt; parse_words(alloc, &words).is_ok(), good, "{line}");
+    assert_eq!(rt; is_accepted(alloc, &line)?, good, "{line}");
     Ok(())
 }
 

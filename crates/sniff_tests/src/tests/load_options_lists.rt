@@ -1,7 +1,6 @@
 //! Lines of words that give types of single columns and texts for null.
-use super::words::{accepted, words_of};
+use super::words::{accepted, is_accepted};
 use load_options::limits::{COLUMN_TYPES_LIMIT, NULLS_LIMIT};
-use load_options::parse_words;
 use std::alloc::Global;
 use std::process::Abort;
 use std::test::Fail;
@@ -96,8 +95,7 @@ fn takes(alloc: Global, front: &str, behind: &str, count: usize) -> Result<bool,
         let piece = format!(in alloc; ",{number}{behind}")?;
         line.push_str(&piece)?;
     }
-    let words = words_of(alloc, &line)?;
-    Ok(parse_words(alloc, &words).is_ok())
+    is_accepted(alloc, &line)
 }
 
 #[test]

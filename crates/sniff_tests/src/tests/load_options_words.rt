@@ -1,6 +1,6 @@
 //! Lines of words that are accepted, and the options that they give.
-use super::words::{accepted, words_of};
-use load_options::{Choice, Options, OutputFormat, TABLE_NAME_LIMIT, is_sqlite, parse_words};
+use super::words::{accepted, is_accepted, repeated};
+use load_options::{Choice, Options, OutputFormat, TABLE_NAME_LIMIT, is_sqlite};
 use std::alloc::Global;
 use std::process::Abort;
 use std::test::Fail;
@@ -158,19 +158,12 @@ fn words_name_a_format_and_a_table(rt: HostRuntime) -> Result<(), Fail> {
     Ok(())
 }
 
-fn check_table_name(rt: &impl Abort, alloc: Global, length: usize, good: bool) -> Result<(), Fail> {
-    let mut line = String::new(alloc);
-    line.push_str("convert f.csv to=sqlite table=")?;
-    for _ in 0..length {
-        line.push_str("n")?;
-    }
-    let words = words_of(alloc, &line)?;
-    assert_eq!(rt; parse_words(alloc, &words).is_ok(), good, "{length}");
-    Ok(())
-}
-
 #[test]
 fn a_table_name_has_at_most_1000_bytes(rt: HostRuntime) -> Result<(), Fail> {
-    check_table_name(&rt, rt.alloc(), TABLE_NAME_LIMIT, true)?;
-    check_table_name(&rt, rt.alloc(), 1_001, false)
+    let front = "convert f.csv to=sqlite table=";
+    let most = repeated(rt.alloc(), front, "n", TABLE_NAME_LIMIT)?;
+    assert!(rt; is_accepted(rt.alloc(), &most)?);
+    let more = repeated(rt.alloc(), front, "n", 1_001)?;
+    assert!(rt; !is_accepted(rt.alloc(), &more)?);
+    Ok(())
 }

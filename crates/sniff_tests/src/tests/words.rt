@@ -19,6 +19,20 @@ pub fn words_of(alloc: Global, line: &str) -> Result<Vec<String>, Fail> {
     Ok(words)
 }
 
+/// A front, and so many times a text behind it.
+pub fn repeated(alloc: Global, front: &str, text: &str, times: usize) -> Result<String, Fail> {
+    let mut line = String::from_str(alloc, front)?;
+    for _ in 0..times {
+        line.push_str(text)?;
+    }
+    Ok(line)
+}
+
+/// Whether the words of a line are accepted.
+pub fn is_accepted(alloc: Global, line: &str) -> Result<bool, Fail> {
+    Ok(parse_words(alloc, &words_of(alloc, line)?).is_ok())
+}
+
 /// The request of accepted words.
 pub fn accepted(rt: &impl Abort, alloc: Global, line: &str) -> Result<Request, Fail> {
     match parse_words(alloc, &words_of(alloc, line)?) {
