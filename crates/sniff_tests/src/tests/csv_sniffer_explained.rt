@@ -1,4 +1,6 @@
 //! What an explanation leaves out.
+ghost use Rattle.load_options.specs.Accepted.{IsAccepted};
+
 use super::words::options_of;
 use csv_sniffer::{Explanation, SAMPLE_LIMIT, explain, sniff_input};
 use load_options::Options;
@@ -16,7 +18,9 @@ fn cut_row(alloc: Global) -> Result<Vec<u8>, Fail> {
 }
 
 /// What is found in an input, explained.
-fn explained(alloc: Global, options: &Options, input: &[u8]) -> Result<Explanation, Fail> {
+fn explained(alloc: Global, options: &Options, input: &[u8]) -> Result<Explanation, Fail>
+    requires { IsAccepted options.now }
+{
     let finding = sniff_input(alloc, options, input)?;
     Ok(explain(alloc, options, input, &finding.sniffed)?)
 }

@@ -1,4 +1,6 @@
 //! Where the data of inputs begin.
+ghost use Rattle.load_options.specs.Accepted.{IsAccepted};
+
 use super::words::options_of;
 use csv_sniffer::{place_under, sample_of, sniff_input, start_under};
 use load_options::Options;
@@ -12,7 +14,9 @@ fn starts(
     input: &[u8],
     other: &[u8],
     behind: &[u8],
-) -> Result<(usize, usize, usize), Fail> {
+) -> Result<(usize, usize, usize), Fail>
+    requires { IsAccepted options.now }
+{
     let finding = sniff_input(alloc, options, input)?;
     let place = place_under(alloc, options, &finding.sniffed, other)?;
     let start = start_under(alloc, options, &finding.sniffed, behind, true)?;
