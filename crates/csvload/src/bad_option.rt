@@ -1,13 +1,11 @@
 // Words that give no option.
 use crate::excerpt::shortened;
-use crate::given::{command_word, name_of, subject};
+use crate::given::{FIRST_OPTION, command_word, name_of, subject};
 use crate::glyphs::shown;
+use crate::shell::{shell_files, shell_word};
 use csv_source::NoMemory;
 use load_options::{allowed_texts, command_of, word_at};
 use std::alloc::Global;
-
-/// The place of the first word behind the file.
-const FIRST_OPTION: usize = 2;
 
 /// Whether the command has an option of that name.
 fn is_option(words: &[String], name: &str) -> bool {
@@ -41,19 +39,29 @@ fn dashed(alloc: Global, words: &[String], word: &str) -> Result<Option<String>,
     )?))
 }
 
+/// The file and the word behind it as the files of a batch, where they may be meant so.
+fn both_files(alloc: Global, words: &[String], word: &str) -> Result<Option<String>, NoMemory> {
+    let (command, first) = (command_word(words), subject(words));
+    if command == "make" || word.is_empty() || word.starts_with('-') {
+        return Ok(None);
+    }
+    if command == "batch" {
+        return shell_word(alloc, format!(in alloc; "{first},{word}")?.as_str());
+    }
+    shell_files(alloc, first, word)
+}
+
 /// Why a word without `=` gives no option.
 fn lone_word(alloc: Global, words: &[String], word: &str) -> Result<String, NoMemory> {
-    let command = command_word(words);
     let shown_word = shortened(alloc, word.as_bytes())?;
-    let line = if is_option(words, word) {
-        format!(in alloc; "'{shown_word}' is no option: one is written {word}=VALUE")?
-    } else if command == "make" || word.starts_with('-') {
-        format!(in alloc; "'{shown_word}' is no option: one is written NAME=VALUE")?
-    } else {
-        let (first, second) = (shown(alloc, subject(words))?, shown(alloc, word)?);
-        format!(in alloc;
-            "'{shown_word}' is no option; several files: csvload batch {first},{second}"
-        )?
+    if is_option(words, word) {
+        return Ok(format!(in alloc; "'{shown_word}' is no option: one is written {word}=VALUE")?);
+    }
+    let line = match both_files(alloc, words, word)? {
+        Some(files) => format!(in alloc;
+            "'{shown_word}' is no option; several files: csvload batch {files}"
+        )?,
+        None => format!(in alloc; "'{shown_word}' is no option: one is written NAME=VALUE")?,
     };
     Ok(line)
 }

@@ -5,6 +5,7 @@ use csv_source::NoMemory;
 use load_options::limits::{COLUMN_LIMIT, COLUMN_TYPES_LIMIT, NULLS_LIMIT, TABLE_NAME_LIMIT};
 use load_options::{Allowed, NumberRange, allowed_texts, command_of, word_at};
 use std::alloc::Global;
+use std::collections::HashSet;
 
 /// The types' names, as they are written.
 const TYPES: [&str; 6] = ["BOOLEAN", "BIGINT", "DATE", "TIME", "TIMESTAMP", "VARCHAR"];
@@ -25,13 +26,14 @@ fn number_taken(alloc: Global, word: &str, range: NumberRange) -> Result<String,
 }
 
 /// The first name that comes twice.
-fn doubled(value: &str) -> Option<&str> {
-    for (place, name) in value.split(',').enumerate() {
-        if value.split(',').take(place).any(|earlier| earlier == name) {
-            return Some(name);
+fn doubled(alloc: Global, value: &str) -> Result<&str, NoMemory> {
+    let mut earlier = HashSet::new(alloc);
+    for name in value.split(',') {
+        if !earlier.insert(name)? {
+            return Ok(name);
         }
     }
-    None
+    Ok("")
 }
 
 /// Why names are refused.
@@ -44,7 +46,7 @@ fn bad_names(alloc: Global, word: &str) -> Result<String, NoMemory> {
         let number = place.saturating_add(1);
         return Ok(format!(in alloc; "name {number} of {name} is empty")?);
     }
-    let twice = shortened(alloc, doubled(value).unwrap_or("").as_bytes())?;
+    let twice = shortened(alloc, doubled(alloc, value)?.as_bytes())?;
     Ok(format!(in alloc; "'{twice}' stands twice in {name}")?)
 }
 
@@ -73,18 +75,15 @@ fn cut_pair(pair: &str) -> (&str, &str) {
 }
 
 /// The first name of pairs that comes twice.
-fn doubled_name(value: &str) -> Option<&str> {
-    for (place, pair) in value.split(',').enumerate() {
+fn doubled_name(alloc: Global, value: &str) -> Result<&str, NoMemory> {
+    let mut earlier = HashSet::new(alloc);
+    for pair in value.split(',') {
         let name = cut_pair(pair).0;
-        if value
-            .split(',')
-            .take(place)
-            .any(|earlier| cut_pair(earlier).0 == name)
-        {
-            return Some(name);
+        if !earlier.insert(name)? {
+            return Ok(name);
         }
     }
-    None
+    Ok("")
 }
 
 /// Why pairs of a name and a type are refused.
@@ -112,7 +111,7 @@ fn bad_column_types(alloc: Global, word: &str) -> Result<String, NoMemory> {
         let number = place.saturating_add(1);
         return Ok(format!(in alloc; "name {number} of {name} is empty")?);
     }
-    let twice = shortened(alloc, doubled_name(value).unwrap_or("").as_bytes())?;
+    let twice = shortened(alloc, doubled_name(alloc, value)?.as_bytes())?;
     Ok(format!(in alloc; "'{twice}' stands twice in {name}")?)
 }
 
@@ -127,7 +126,7 @@ fn bad_nulls(alloc: Global, word: &str) -> Result<String, NoMemory> {
     if count_of_pieces(value) > NULLS_LIMIT {
         return Ok(format!(in alloc; "{name} takes {NULLS_LIMIT} texts at most")?);
     }
-    let twice = shortened(alloc, doubled(value).unwrap_or("").as_bytes())?;
+    let twice = shortened(alloc, doubled(alloc, value)?.as_bytes())?;
     Ok(format!(in alloc; "'{twice}' stands twice in {name}")?)
 }
 

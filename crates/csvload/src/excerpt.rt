@@ -6,7 +6,7 @@ use csv_source::NoMemory;
 use std::alloc::Global;
 
 /// How many characters of a row, or of a value, are shown.
-const MOST: usize = 60;
+pub const MOST: usize = 60;
 
 /// How many of them may stand before the fault.
 const MOST_BEFORE: usize = 30;

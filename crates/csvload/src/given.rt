@@ -7,7 +7,7 @@ use std::alloc::Global;
 const SUBJECT: usize = 1;
 
 /// The words behind the file that give options.
-const FIRST_OPTION: usize = 2;
+pub const FIRST_OPTION: usize = 2;
 
 /// The command.
 pub fn command_word(words: &[String]) -> &str {

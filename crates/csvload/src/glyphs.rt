@@ -80,6 +80,13 @@ fn push_bytes(glyphs: &mut Vec<Glyph>, bytes: &[u8]) -> Result<(), NoMemory> {
     Ok(())
 }
 
+/// Whether a character shows on a line as itself: none that moves a terminal's cursor, begins a command of it, as U+009B
+/// does, or turns the direction in which all behind it is shown.
+pub fn is_seen(character: char) -> bool {
+    !character.is_control()
+        && !matches!(character, '\u{202a}'..='\u{202e}' | '\u{2066}'..='\u{2069}')
+}
+
 /// A character.
 fn push_character(
     glyphs: &mut Vec<Glyph>,
@@ -91,7 +98,7 @@ fn push_character(
         '\r' => glyphs.push(Glyph::Marked('r'))?,
         '\t' => glyphs.push(Glyph::Marked('t'))?,
         '\\' | '|' if spelling == Spelling::Row => glyphs.push(Glyph::Marked(character))?,
-        _ if character.is_control() => {
+        _ if !is_seen(character) => {
             push_bytes(glyphs, character.encode_utf8(&mut [0; 4]).as_bytes())?;
         }
         _ => glyphs.push(Glyph::Plain(character))?,

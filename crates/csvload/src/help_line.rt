@@ -1,6 +1,6 @@
 // What helps against a first fault.
 use crate::given::{command_word, count_of_pieces, gives, is_given, value_of, word_giving};
-use crate::glyphs::shown;
+use crate::shell::shell_file;
 use csv_source::{NoMemory, STANDARD_INPUT};
 use reject_book::{ErrorKind, Reject};
 use std::alloc::Global;
@@ -37,29 +37,6 @@ impl Packing {
     }
 }
 
-/// Whether a shell takes a byte of a name as it stands.
-fn is_plain(byte: u8) -> bool {
-    byte.is_ascii_alphanumeric() || b"._-/+@%,:".contains(&byte)
-}
-
-/// A name as a shell takes it.
-fn shell_word(alloc: Global, name: &str) -> Result<String, NoMemory> {
-    let shown_name = shown(alloc, name)?;
-    if name.bytes().all(is_plain) {
-        return Ok(shown_name);
-    }
-    let mut word = String::from_str(alloc, "'")?;
-    for character in shown_name.chars() {
-        match character {
-            // No backslash is heard between single quotes, so one of them ends the text before it.
-            '\'' => word.push_str("'\\''")?,
-            _ => word.push(character)?,
-        }
-    }
-    word.push('\'')?;
-    Ok(word)
-}
-
 /// How a file that is packed is read.
 pub fn unpacking(
     alloc: Global,
@@ -72,8 +49,11 @@ pub fn unpacking(
     if file == STANDARD_INPUT {
         return Ok(format!(in alloc; "the input {state}: {tool} | csvload {command} -")?);
     }
-    let name = shell_word(alloc, file)?;
-    Ok(format!(in alloc; "the file {state}: {tool} {name} | csvload {command} -")?)
+    let line = match shell_file(alloc, file)? {
+        Some(name) => format!(in alloc; "the file {state}: {tool} {name} | csvload {command} -")?,
+        None => format!(in alloc; "the file {state}")?,
+    };
+    Ok(line)
 }
 
 /// How many columns an option gives, where it is given.

@@ -1,8 +1,9 @@
 // What is said where a file isn't as the words want it.
 use crate::excerpt::shortened;
 use crate::given::{command_word, file_at, subject};
-use crate::glyphs::shown;
+use crate::glyphs::{Spelling, glyphs_of, text_of};
 use crate::read_fault::subject_of;
+use crate::rejects_call::rejects_call;
 use csv_source::{NoMemory, STANDARD_INPUT};
 use report_text::Mismatch;
 use std::alloc::Global;
@@ -39,7 +40,8 @@ fn other_header(
     file: &[u8],
     names: &Names,
 ) -> Result<String, NoMemory> {
-    let (file, columns) = (shortened(alloc, file)?, columns_said(alloc, names)?);
+    let file = text_of(alloc, &glyphs_of(alloc, file, Spelling::Word)?)?;
+    let columns = columns_said(alloc, names)?;
     Ok(format!(in alloc; "'{file}' hasn't the header of {first}, whose columns are {columns}")?)
 }
 
@@ -55,8 +57,8 @@ pub fn too_many_faults(alloc: Global, words: &[String], bound: u64) -> Result<St
     if command == "rejects" || file == STANDARD_INPUT {
         return Ok(line);
     }
-    let name = shown(alloc, file)?;
-    Ok(format!(in alloc; "{line}: csvload rejects {name} lists them")?)
+    let call = rejects_call(alloc, words)?;
+    Ok(format!(in alloc; "{line}: {call}")?)
 }
 
 /// That the words don't fit the file.

@@ -1,4 +1,5 @@
 // A line on standard error that shows how far the reading has come.
+use crate::screen_line::ScreenLine;
 use csv_source::{NoMemory, STANDARD_INPUT};
 use std::alloc::Global;
 use std::fs;
@@ -14,18 +15,15 @@ const STEP: u64 = 100;
 
 const MEGABYTE: u64 = 1_000_000;
 
-/// Goes to the front of the line on a terminal, and erases it.
-const ERASE: &str = "\r\x1b[2K";
-
 /// A line that shows how much of a file was read, where its reading takes longer than a second.
 #[derive(Drop)]
 pub struct ProgressLine<'a, R> {
     rt: &'a R,
+    line: &'a ScreenLine<'a, R>,
     /// When the line is due; none where nothing is to be shown.
     next: Option<Instant>,
     read: u64,
     size: u64,
-    shown: bool,
 }
 
 /// How much was read, of how much where the file tells its size, which a pipe doesn't.
@@ -42,17 +40,17 @@ fn progress_text(alloc: Global, read: u64, size: u64) -> Result<String, NoMemory
 
 impl<'a, R: Clock + Eprint + Files + AllocGlobal> ProgressLine<'a, R> {
     /// Nothing was read, and nothing is ever shown where `shows` is false.
-    pub fn new(rt: &'a R, shows: bool) -> ProgressLine<'a, R> {
+    pub fn new(rt: &'a R, line: &'a ScreenLine<'a, R>, shows: bool) -> ProgressLine<'a, R> {
         let next = match Instant::now(rt) {
             Ok(now) if shows => now.checked_add(Duration::from_millis(SILENCE)),
             _ => None,
         };
         ProgressLine {
             rt,
+            line,
             next,
             read: 0,
             size: 0,
-            shown: false,
         }
     }
 
@@ -68,7 +66,7 @@ impl<'a, R: Clock + Eprint + Files + AllocGlobal> ProgressLine<'a, R> {
         }
     }
 
-    /// Goes on by so many bytes, and shows them where the line is due. One that can't be written is left out.
+    /// Goes on by so many bytes, and shows them where the line is due.
     pub fn advance(&mut self, count: usize) {
         self.read = self.read.saturating_add(count as u64);
         let (Some(next), Ok(now)) = (self.next, Instant::now(self.rt)) else {
@@ -78,18 +76,8 @@ impl<'a, R: Clock + Eprint + Files + AllocGlobal> ProgressLine<'a, R> {
             return;
         }
         self.next = now.checked_add(Duration::from_millis(STEP));
-        self.shown = true;
-        let _ = self.rt.eprint(ERASE);
         if let Ok(text) = progress_text(self.rt.alloc(), self.read, self.size) {
-            let _ = self.rt.eprint(text);
+            self.line.show(text.as_str());
         }
-    }
-
-    /// Erases the line, where there is one, and shows none from then on.
-    pub fn finish(&mut self) {
-        if self.shown {
-            let _ = self.rt.eprint(ERASE);
-        }
-        self.next = None;
     }
 }

@@ -2,6 +2,7 @@
 ghost use Rattle.std.specs.Prelude.{◌≡◌};
 
 use crate::progress::ProgressLine;
+use crate::screen_line::ScreenLine;
 use csv_source::{Failed, Source};
 use std::io::Eprint;
 use std::rt::Files;
@@ -17,18 +18,23 @@ const FRONT: usize = 2;
 pub struct WatchedFiles<'a, R: AllocGlobal, S> {
     rt: &'a R,
     files: S,
-    line: ProgressLine<'a, R>,
+    progress: ProgressLine<'a, R>,
     name: String,
     front: Vec<u8>,
 }
 
 impl<'a, R: Clock + Eprint + Files + AllocGlobal, S: Source> WatchedFiles<'a, R, S> {
-    /// Files of which none was opened. How much is read of them is shown where `shows` is true.
-    pub fn new(rt: &'a R, files: S, shows: bool) -> WatchedFiles<'a, R, S> {
+    /// Files of which none was opened. How much is read of them is shown on a line where `shows` is true.
+    pub fn new(
+        rt: &'a R,
+        files: S,
+        line: &'a ScreenLine<'a, R>,
+        shows: bool,
+    ) -> WatchedFiles<'a, R, S> {
         WatchedFiles {
             rt,
             files,
-            line: ProgressLine::new(rt, shows),
+            progress: ProgressLine::new(rt, line, shows),
             name: String::new(rt.alloc()),
             front: Vec::new(rt.alloc()),
         }
@@ -43,11 +49,6 @@ impl<'a, R: Clock + Eprint + Files + AllocGlobal, S: Source> WatchedFiles<'a, R,
     pub fn front(&self) -> &[u8] {
         &self.front
     }
-
-    /// Erases the line, where there is one, and shows none from then on.
-    pub fn finish(&mut self) {
-        self.line.finish();
-    }
 }
 
 impl<'a, R: Clock + Eprint + Files + AllocGlobal, S: Source> Source for WatchedFiles<'a, R, S> {
@@ -61,13 +62,13 @@ impl<'a, R: Clock + Eprint + Files + AllocGlobal, S: Source> Source for WatchedF
         self.front = Vec::new(self.rt.alloc());
         self.name = String::from_str(self.rt.alloc(), name).unwrap_or(String::new(self.rt.alloc()));
         self.files.open(name)?;
-        self.line.begin(name);
+        self.progress.begin(name);
         Ok(())
     }
 
     fn read(&mut self, buf: &mut [u8]) -> Result<usize, Failed> {
         let count = self.files.read(buf)?;
-        self.line.advance(count);
+        self.progress.advance(count);
         let wanted = FRONT.saturating_sub(self.front.len());
         // Where memory is wanting, only a line for a person knows less.
         let _ = self.front.extend_from_slice(&buf[..count.min(wanted)]);

@@ -16,7 +16,7 @@ use Rattle.csv_sniffer.specs.Sample.{sample_limit}
 use Rattle.csv_writer.specs.Quoting.{needs_quotes}
 use Rattle.csv_writer.specs.Writable.{IsReadableCell}
 use Rattle.csv_writer.specs.WrittenTable.{names_line, row_line, written_table}
-use Rattle.csv_loader.specs.Reading.{reading, table_rows, faults}
+use Rattle.loader_reply.specs.Reading.{reading, table_rows, faults}
 
 -- ---- a written table as a text of the grammar
 

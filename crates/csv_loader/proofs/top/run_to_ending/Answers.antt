@@ -1,5 +1,5 @@
 use Rattle.std.proofs.Common.{map}
-use Rattle.csv_loader.specs.Reply.{texts}
+use Rattle.loader_reply.specs.Reply.{texts}
 use Rattle.csv_loader.proofs.Headlines.{answers, ends_as, ends_some, leaves_written, reads_fault, stays_steady, told_by, writes_part, writes_some}
 use Rattle.csv_loader.proofs.top.run_to_ending.Goals as goal
 

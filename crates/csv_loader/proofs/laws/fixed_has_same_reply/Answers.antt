@@ -1,5 +1,0 @@
-use Rattle.csv_loader.proofs.FixedReplies.{fixed_has_same_reply}
-use Rattle.csv_loader.proofs.laws.fixed_has_same_reply.Goals as goal
-
-pub returns : goal.returns
-returns c = fixed_has_same_reply

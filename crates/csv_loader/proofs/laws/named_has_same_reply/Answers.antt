@@ -1,5 +1,0 @@
-use Rattle.csv_loader.proofs.NamedReplies.{named_has_same_reply}
-use Rattle.csv_loader.proofs.laws.named_has_same_reply.Goals as goal
-
-pub returns : goal.returns
-returns c = named_has_same_reply

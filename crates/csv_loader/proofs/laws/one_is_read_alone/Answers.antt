@@ -1,5 +1,0 @@
-use Rattle.csv_loader.proofs.OwnLaws.{one_is_read_alone}
-use Rattle.csv_loader.proofs.laws.one_is_read_alone.Goals as goal
-
-pub returns : goal.returns
-returns c = one_is_read_alone

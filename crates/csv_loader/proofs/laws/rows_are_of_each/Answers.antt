@@ -1,5 +1,0 @@
-use Rattle.csv_loader.proofs.EachFile.{rows_are_of_each}
-use Rattle.csv_loader.proofs.laws.rows_are_of_each.Goals as goal
-
-pub returns : goal.returns
-returns c = rows_are_of_each

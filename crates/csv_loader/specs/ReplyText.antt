@@ -1,9 +1,0 @@
--- The text of a reply, however it is made.
-use Rattle.std.specs.Prelude.{ℕ, List}
-use Rattle.csv_loader.specs.declared.reply_text.ReplyText.{ReplyText}
-use Rattle.csv_loader.specs.declared.reply_text.ReplyText.TheVariants.{Whole, Report, Table}
-
-abbrev pub text_of : ReplyText → List ℕ
-text_of (Whole text) = text
-text_of (Report text) = text
-text_of (Table text) = text

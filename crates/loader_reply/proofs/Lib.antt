@@ -1,0 +1,23 @@
+pub mod Batches
+pub mod FileSteps
+pub mod GroupReading
+pub mod HeadFiles
+pub mod FixedReplies
+pub mod HeadLaws
+pub mod HeadLoads
+pub mod HeadSteps
+pub mod InputLemmas
+pub mod Loads
+pub mod MadeRows
+pub mod NameSteps
+pub mod OwnLaws
+pub mod Printing
+pub mod ReadOn
+pub mod ReadingLaws
+pub mod SameCells
+pub mod EachFile
+pub mod NamedReplies
+pub mod Replies
+pub mod ShownChunks
+pub mod SlotTaps
+mod Worked

@@ -1,0 +1,221 @@
+-- A reply, against what came of the files as they were opened.
+use Rattle.std.proofs.Common.{◌≡◌, ◌⊎◌, ℕ, Bool, true, false, cond, List, [], ◌∷◌, Option, None, Some, Ok, Err, refl, sym, ap, ◌∙◌, subst, inl, inr}
+use Rattle.std.specs.Prelude.{option_map, unwrap_or}
+use Rattle.std.specs.List.{filter_map}
+use Rattle.csv_source.specs.Causes.{Rose}
+use Rattle.load_options.specs.declared.options.Command.{Command}
+use Rattle.load_options.specs.declared.options.Command.TheVariants.{Load as load_command, Sniff, Summary, Convert, Rejects, Batch, Make}
+use Rattle.load_options.specs.FileNames.{file_names}
+use Rattle.load_options.specs.declared.options.Options.{Options}
+use Rattle.load_options.specs.declared.options.Request.{Request}
+use Rattle.load_options.specs.declared.words.WordFault.{WordFault}
+use Rattle.load_options.specs.Request.{read_words}
+use Rattle.load_options.specs.Texts.{word_at}
+use Rattle.csv_sniffer.specs.declared.found.Sniffed.{Sniffed}
+use Rattle.csv_sniffer.specs.Explanation.{explanation}
+use Rattle.csv_sniffer.specs.Input.{found}
+use Rattle.csv_sniffer.specs.NamedTypes.{missing_name}
+use Rattle.report_text.specs.BatchReport.{all_in}
+use Rattle.column_taps.specs.Seen.{Seen}
+use Rattle.file_list.specs.BatchView.{BatchView}
+use Rattle.report_text.specs.MadeText.{made_text}
+use Rattle.report_text.specs.Printable.{IsPrintableBatch, IsPrintableLoad}
+use Rattle.report_text.specs.declared.outcome.Loaded.{Loaded}
+use Rattle.report_text.specs.declared.outcome.Mismatch.TheVariants.{NoColumn, TooManyColumns}
+use Rattle.report_text.specs.declared.outcome.Outcome.{Outcome}
+use Rattle.report_text.specs.declared.outcome.Outcome.TheVariants as outcomes
+use Rattle.report_text.specs.declared.outcome.Stats.{Stats}
+use Rattle.window_load.specs.declared.stop.LoadStop.{LoadStop}
+use Rattle.window_load.specs.declared.stop.LoadStop.TheVariants as stops
+use Rattle.loader_reply.specs.declared.answering.Answer.{Answer}
+use Rattle.loader_reply.specs.declared.answering.Answer.TheVariants as answers
+use Rattle.loader_reply.specs.declared.batch.Load.{Load}
+use Rattle.loader_reply.specs.declared.batch.Load.TheVariants as loads
+use Rattle.loader_reply.specs.declared.database.TheConstants.{COLUMN_LIMIT}
+use Rattle.loader_reply.specs.declared.ending.Ending.TheVariants as endings
+use Rattle.loader_reply.specs.Batch.{batch_refusal, found_in_first, load_of, AreRead, IsLoadOf, IsOver, IsReadWhole, LacksOne}
+use Rattle.loader_reply.specs.Replying.{IsAnswer, IsReplyBy, IsReplyTo, IsStopReply, input_limit}
+use Rattle.loader_reply.specs.Fitting.{is_unfit, passed_bound}
+use Rattle.loader_reply.specs.Reply.{Reply, reply, outcome_reply, bounded_reply, fitting_reply, in_format, inputs_reply, load_reply, loaded_of, no_column, without_spare, opened_reply, or_too_many, request_reply, command_names, sniffed_outcome, sniffed_reply, unless_refused, whole_or_error, whole_reply, words_names, words_reply}
+use Rattle.loader_reply.proofs.FileSteps.{Told, all_read, none_left, none_read, one_more_read}
+
+-- ---- the reply to a load is an answer
+
+whole_answers : (answer : Answer) (o : Options) (s : Sniffed) (taps : List Seen) (batch : BatchView) (stats : Stats) → (whole_reply answer o s taps batch stats).status ≡ 0
+whole_answers answers.Loaded o s taps batch stats = refl
+whole_answers answers.Summary o s taps batch stats = refl
+whole_answers answers.Written o s taps batch stats = refl
+whole_answers answers.Rejects o s taps batch stats = refl
+whole_answers answers.Database o s taps batch stats = refl
+whole_answers answers.Batch o s taps batch stats = refl
+
+-- a name that no column has
+missing_answers : (o : Options) (s : Sniffed) (r : Reply) → IsAnswer r.status → IsAnswer (unless_refused r (no_column o s)).status
+missing_answers o s r is = by_name (missing_name o.column_types s.names) where
+  by_name : (name : Option (List ℕ)) → IsAnswer (unless_refused r (option_map (λ name. outcomes.Mismatch (NoColumn name s.names)) name)).status
+  by_name None = is
+  by_name (Some name) = inr (inr (inr (inl refl)))
+
+load_answers : (answer : Answer) (o : Options) (s : Sniffed) (taps : List Seen) (load : Load) → IsAnswer (load_reply answer o s taps load).status
+load_answers answer o s taps load = missing_answers o s (fitting_reply answer o s taps load) (by_width (is_unfit answer s)) where
+  by_bound : (whole : Reply) → whole.status ≡ 0 → (bound : Option ℕ) → IsAnswer (or_too_many whole bound).status
+  by_bound whole is None = inl is
+  by_bound whole is (Some bound) = inr (inr (inr (inr (inr refl))))
+
+  by_load : (l : Load) → IsAnswer (whole_or_error answer o s taps l).status
+  by_load (loads.Whole batch stats) = by_bound (whole_reply answer o s taps batch stats) (whole_answers answer o s taps batch stats) (passed_bound o.max_errors (all_in batch.files))
+  by_load (loads.FirstError reject) = inr (inr (inl refl))
+  by_load (loads.OtherHeader file) = inr (inr (inr (inl refl)))
+
+  by_width : (t : Bool) → IsAnswer (cond t (outcome_reply (outcomes.Mismatch (TooManyColumns COLUMN_LIMIT))) (whole_or_error answer o s taps load)).status
+  by_width true = inr (inr (inr (inl refl)))
+  by_width false = by_load load
+
+-- ---- what came of the files
+
+module _ (limit : ℕ) (held : Told) (names : List (List ℕ)) (left : Option (List ℕ)) (before after : ℕ) (r : Reply) where
+  -- no file decides
+  within_told : (to_inputs : List (List ℕ) → Reply) → IsAnswer r.status
+      → AreRead limit held names left (λ opened. (batch_refusal limit opened ≡ None) × (r ≡ to_inputs (filter_map (λ input. input) opened)))
+      → IsReplyBy limit (opened_reply to_inputs limit) names held left before after r
+  within_told to_inputs answers read =
+      inl (read.0, read.1, read.2, (answers, read.3.1 ∙ ap (unless_refused (to_inputs (filter_map (λ input. input) read.0))) (sym read.3.0)))
+
+  pub stopped_told : (to_inputs : List (List ℕ) → Reply) (stop : LoadStop) → IsStopReply limit stop r
+      → (stop ≡ stops.TooLarge → AreRead limit held names left (IsOver limit)) → (stop ≡ stops.Failed → Rose before after ⊎ LacksOne limit held names)
+      → IsReplyBy limit (opened_reply to_inputs limit) names held left before after r
+  stopped_told to_inputs stops.TooLarge is over failed =
+      let read = over refl in
+      inl (
+        read.0,
+        read.1,
+        read.2,
+        (subst (λ (q : Reply). IsAnswer q.status) (sym is) (inr (inr (inr (inr (inl refl))))), is ∙ ap (unless_refused (to_inputs (filter_map (λ input. input) read.0))) (sym read.3)),
+      )
+  stopped_told to_inputs stops.Failed is over failed = inr (is, failed refl)
+  stopped_told to_inputs stops.NoMemory is over failed = absurd is
+
+  pub loaded_told : (answer : Answer) (o : Options) (s : Sniffed) (taps : List Seen) (load : Load) → r ≡ load_reply answer o s taps load → AreRead limit held names left (IsLoadOf o names s load) → limit ≡ o.max_input
+      → IsReplyBy limit (opened_reply (inputs_reply answer o names taps) limit) names held left before after r
+  loaded_told answer o s taps load is read same =
+      let inputs : List (List ℕ) = filter_map (λ input. input) read.0 in
+      within_told (inputs_reply answer o names taps) (subst (λ (q : Reply). IsAnswer q.status) (sym is) (load_answers answer o s taps load)) (
+        read.0,
+        read.1,
+        read.2,
+        (
+          ap (λ n. batch_refusal n read.0) same ∙ read.3.0,
+          is ∙ ap (load_reply answer o s taps) read.3.2 ∙ ap (λ (t : Sniffed). load_reply answer o t taps (load_of o t names inputs)) read.3.1,
+        ),
+      )
+
+-- what `sniff` tells of a file is an answer
+sniffed_answers : (o : Options) (input : List ℕ) → IsAnswer (outcome_reply (sniffed_outcome o input)).status
+sniffed_answers o input = by_name (missing_name o.column_types s.names) where
+  s : Sniffed
+  s = found o input
+
+  told : Bool → Outcome
+  told t = cond t (outcomes.Explained s (explanation o input s)) (outcomes.Sniffed s)
+
+  by_word : (t : Bool) → IsAnswer (outcome_reply (told t)).status
+  by_word true = inl refl
+  by_word false = inl refl
+
+  by_name : (name : Option (List ℕ)) → IsAnswer (outcome_reply (unwrap_or (option_map (λ name. outcomes.Mismatch (NoColumn name s.names)) name) (told o.explain))).status
+  by_name None = by_word o.explain
+  by_name (Some name) = inr (inr (inr (inl refl)))
+
+-- the file of `sniff`
+pub sniffed_told : (o : Options) (held : Told) (name : List ℕ) (left : Option (List ℕ)) (before after : ℕ) (outcome : Outcome) (r : Reply) → r ≡ outcome_reply outcome
+    → IsReadWhole o.max_input held name left (λ input. outcome ≡ sniffed_outcome o input) → IsReplyBy o.max_input (opened_reply (sniffed_reply o) o.max_input) (name ∷ []) held left before after r
+sniffed_told o held name left before after outcome r is read =
+    let limit = o.max_input in
+    let all : List (List ℕ) = name ∷ [] in
+    within_told limit held all left before after r (sniffed_reply o) (subst (λ (q : Reply). IsAnswer q.status) (sym (is ∙ ap outcome_reply read.3)) (sniffed_answers o read.0))
+    (all_read limit held all (one_more_read limit held all name [] (none_read limit held all) left read.0 read.1 read.2) left
+    (none_left limit held name left (λ input. outcome ≡ sniffed_outcome o input) read) (λ inputs. r ≡ sniffed_reply o inputs)
+    (is ∙ ap outcome_reply read.3))
+
+-- ---- no file is read
+
+pub none_told : (limit : ℕ) (reply_by : List (Option (List ℕ)) → Reply) (held : Told) (left : Option (List ℕ)) (before after : ℕ) (r : Reply) → IsAnswer r.status → r ≡ reply_by []
+    → IsReplyBy limit reply_by [] held left before after r
+none_told limit reply_by None left before after r answers is = inl ([], refl, tt, (answers, is))
+none_told limit reply_by (Some files) left before after r answers is = inl ([], refl, (refl, tt), (answers, is))
+
+-- ---- the words
+
+module _ (words : List (List ℕ)) (taps : List Seen) (held : Told) (left : Option (List ℕ)) (before after : ℕ) (r : Reply) where
+  pub words_told : (request : Request) (word : List ℕ) → read_words words ≡ Ok request → word ≡ word_at words 1
+      → IsReplyBy request.options.max_input (request_reply request.command request word taps) (command_names request.command word) held left before after r
+      → IsReplyTo words taps held left before after r
+  words_told request word read named told =
+      subst (λ asked. IsReplyBy (input_limit asked) (words_reply asked words taps) (words_names asked (word_at words 1)) held left before after r) (sym read)
+      (subst (λ w. IsReplyBy request.options.max_input (request_reply request.command request w taps) (command_names request.command w) held left before after r) named told)
+
+  pub refused_told : (fault : WordFault) → read_words words ≡ Err fault → r ≡ outcome_reply (outcomes.Refused fault (word_at words fault.index)) → IsReplyTo words taps held left before after r
+  refused_told fault read is =
+      subst (λ asked. IsReplyBy (input_limit asked) (words_reply asked words taps) (words_names asked (word_at words 1)) held left before after r) (sym read)
+      (none_told 0 (words_reply (Err fault) words taps) held left before after r (subst (λ (q : Reply). IsAnswer q.status) (sym is) (inr (inl refl))) is)
+
+-- ---- the commands
+
+module _ (request : Request) (word : List ℕ) (taps : List Seen) (held : Told) (left : Option (List ℕ)) (before after : ℕ) (r : Reply) where
+  pub command_told : (command : Command) → request.command ≡ command → (o : Options) → o ≡ request.options
+      → IsReplyBy o.max_input (request_reply command (record request { options = o }) word taps) (command_names command word) held left before after r
+      → IsReplyBy request.options.max_input (request_reply request.command request word taps) (command_names request.command word) held left before after r
+  command_told command is o same told =
+      subst (λ c. IsReplyBy request.options.max_input (request_reply c request word taps) (command_names c word) held left before after r) (sym is)
+      (subst (λ (x : Options). IsReplyBy x.max_input (request_reply command (record request { options = x }) word taps) (command_names command word) held left before after r) same told)
+
+  pub sniff_told : request.command ≡ Sniff → (o : Options) → o ≡ request.options
+      → IsReplyBy o.max_input (opened_reply (sniffed_reply o) o.max_input) (word ∷ []) held left before after r
+      → IsReplyBy request.options.max_input (request_reply request.command request word taps) (command_names request.command word) held left before after r
+  sniff_told is o same told = command_told Sniff is o same told
+
+  pub load_told : request.command ≡ load_command → (o : Options) → o ≡ request.options
+      → IsReplyBy o.max_input (opened_reply (inputs_reply answers.Loaded o (word ∷ []) taps) o.max_input) (word ∷ []) held left before after r
+      → IsReplyBy request.options.max_input (request_reply request.command request word taps) (command_names request.command word) held left before after r
+  load_told is o same told = command_told load_command is o same told
+
+  pub rejects_told : request.command ≡ Rejects → (o : Options) → o ≡ request.options
+      → IsReplyBy o.max_input (opened_reply (inputs_reply answers.Rejects o (word ∷ []) taps) o.max_input) (word ∷ []) held left before after r
+      → IsReplyBy request.options.max_input (request_reply request.command request word taps) (command_names request.command word) held left before after r
+  rejects_told is o same told = command_told Rejects is o same told
+
+  pub summary_told : request.command ≡ Summary → (o : Options) → o ≡ request.options
+      → IsReplyBy o.max_input (opened_reply (inputs_reply answers.Summary o (word ∷ []) taps) o.max_input) (word ∷ []) held left before after r
+      → IsReplyBy request.options.max_input (request_reply request.command request word taps) (command_names request.command word) held left before after r
+  summary_told is o same told = command_told Summary is o same told
+
+  pub convert_told : request.command ≡ Convert → (o : Options) → o ≡ request.options → (answer : Answer) → answer ≡ in_format o answers.Written
+      → IsReplyBy o.max_input (opened_reply (inputs_reply answer o (word ∷ []) taps) o.max_input) (word ∷ []) held left before after r
+      → IsReplyBy request.options.max_input (request_reply request.command request word taps) (command_names request.command word) held left before after r
+  convert_told is o same answer formed told = command_told Convert is o same
+      (subst (λ a. IsReplyBy o.max_input (opened_reply (inputs_reply a o (word ∷ []) taps) o.max_input) (word ∷ []) held left before after r) formed told)
+
+  pub batch_told : request.command ≡ Batch → (o : Options) → o ≡ request.options → (answer : Answer) → answer ≡ in_format o answers.Batch
+      → IsReplyBy o.max_input (opened_reply (inputs_reply answer o (file_names word) taps) o.max_input) (file_names word) held left before after r
+      → IsReplyBy request.options.max_input (request_reply request.command request word taps) (command_names request.command word) held left before after r
+  batch_told is o same answer formed told = command_told Batch is o same
+      (subst (λ a. IsReplyBy o.max_input (opened_reply (inputs_reply a o (file_names word) taps) o.max_input) (file_names word) held left before after r) formed told)
+
+  pub made_told : request.command ≡ Make → r ≡ reply (endings.Answered 0 None) (made_text request.number request.rows)
+      → IsReplyBy request.options.max_input (request_reply request.command request word taps) (command_names request.command word) held left before after r
+  made_told is made = command_told Make is request.options refl
+      (none_told request.options.max_input (request_reply Make request word taps) held left before after r (subst (λ (q : Reply). IsAnswer q.status) (sym made) (inl refl)) made)
+
+-- ---- the report of the only file
+
+pub loaded_prints : (o : Options) (s : Sniffed) (batch : BatchView) (stats : Stats) (l : Loaded) → without_spare l ≡ loaded_of o s batch stats → IsPrintableBatch s batch → IsPrintableLoad l
+loaded_prints o s batch stats l is prints =
+    let alone : IsPrintableLoad (loaded_of o s batch stats) = record { names = prints.names; types = prints.types; rows = prints.rows; values = prints.values } in
+    let same : IsPrintableLoad (without_spare l) = subst IsPrintableLoad (sym is) alone in
+    record { names = same.names; types = same.types; rows = same.rows; values = same.values }
+
+pub loaded_whole : (o : Options) (s : Sniffed) (taps : List Seen) (batch : BatchView) (stats : Stats) (answer : Answer) (l : Loaded) (r : Reply) → answer ≡ answers.Loaded → without_spare l ≡ loaded_of o s batch stats
+    → r ≡ outcome_reply (outcomes.Loaded l) → r ≡ whole_reply answer o s taps batch stats
+loaded_whole o s taps batch stats answer l r named same is =
+    let whole : r ≡ whole_reply answers.Loaded o s taps batch stats = is ∙ ap (λ x. outcome_reply (outcomes.Loaded x)) same in
+    subst (λ a. r ≡ whole_reply a o s taps batch stats) (sym named) whole

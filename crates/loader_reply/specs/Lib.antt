@@ -1,0 +1,11 @@
+pub mod Batch
+pub mod Databases
+pub mod Ending
+pub mod Laws
+pub mod Loading
+pub mod Reading
+pub mod Fitting
+pub mod Reply
+pub mod Replying
+pub mod ReplyText
+pub mod Showing

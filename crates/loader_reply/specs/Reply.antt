@@ -1,0 +1,223 @@
+-- The reply to words: an ending with its status, and a text (this loader's profile).
+use Rattle.std.specs.Prelude.{◌≡◌, ℕ, if◌then◌else◌, List, [], ◌∷◌, map, option_map, Option, Some, None, unwrap_or, Result, Ok, Err, String, string_bytes, Bool, true, false}
+use Rattle.std.specs.Bool.{then_some}
+use Rattle.std.specs.List.{filter_map}
+use Rattle.std.specs.declared.alloc.Global.{Global}
+use Rattle.csv_source.specs.Files.{file_of}
+use Rattle.load_options.specs.declared.options.Command.{Command}
+use Rattle.load_options.specs.declared.options.Command.TheVariants.{Load, Sniff, Summary, Convert, Rejects, Batch, Make}
+use Rattle.load_options.specs.declared.options.Options.{Options}
+use Rattle.load_options.specs.declared.options.Request.{Request}
+use Rattle.load_options.specs.declared.words.WordFault.{WordFault}
+use Rattle.load_options.specs.FileNames.{file_names}
+use Rattle.load_options.specs.Formats.{is_sqlite}
+use Rattle.load_options.specs.Request.{read_words}
+use Rattle.load_options.specs.Texts.{word_at}
+use Rattle.csv_sniffer.specs.Explanation.{explanation}
+use Rattle.csv_sniffer.specs.Input.{found}
+use Rattle.csv_sniffer.specs.declared.found.Sniffed.{Sniffed}
+use Rattle.csv_sniffer.specs.NamedTypes.{missing_name}
+use Rattle.reject_book.specs.Kept.{book_of}
+use Rattle.file_list.specs.declared.batch.FileBook.{FileBook}
+use Rattle.file_list.specs.BatchView.{BatchView}
+use Rattle.column_taps.specs.Seen.{Seen}
+use Rattle.report_text.specs.BatchReport.{all_in}
+use Rattle.report_text.specs.MadeText.{made_text}
+use Rattle.report_text.specs.Printable.{IsPrintable}
+use Rattle.report_text.specs.Report.{has_rows, report_of}
+use Rattle.report_text.specs.declared.outcome.Loaded.{Loaded}
+use Rattle.report_text.specs.declared.outcome.Mismatch.TheVariants.{NoColumn, OtherHeader, TooManyColumns}
+use Rattle.report_text.specs.declared.outcome.Outcome.{Outcome}
+use Rattle.report_text.specs.declared.outcome.Outcome.TheVariants as outcomes
+use Rattle.report_text.specs.declared.outcome.Stats.{Stats}
+use Rattle.csv_writer.specs.WrittenTable.{written_table}
+use Rattle.reject_writer.specs.WrittenRejects.{written_rejects}
+use Rattle.db_writer.specs.Database.{database}
+use Rattle.loader_reply.specs.Batch.{batch_refusal, found_in_first, load_of}
+use Rattle.loader_reply.specs.Databases.{stored_files}
+use Rattle.loader_reply.specs.Fitting.{is_unfit, passed_bound}
+use Rattle.loader_reply.specs.Ending.{ending_code, ending_of}
+use Rattle.loader_reply.specs.Reading.{keep_of}
+use Rattle.loader_reply.specs.Showing.{tap_lines}
+use Rattle.loader_reply.specs.declared.answering.Answer.{Answer}
+use Rattle.loader_reply.specs.declared.answering.Answer.TheVariants as answers
+use Rattle.loader_reply.specs.declared.batch.Load.{Load as FilesLoad}
+use Rattle.loader_reply.specs.declared.batch.Load.TheVariants as loads
+use Rattle.loader_reply.specs.declared.database.TheConstants.{COLUMN_LIMIT}
+use Rattle.loader_reply.specs.declared.ending.Ending.{Ending}
+use Rattle.loader_reply.specs.declared.ending.Ending.TheVariants as endings
+
+-- the bytes of words
+abbrev pub texts : List (String Global) → List (List ℕ)
+texts words = map string_bytes words
+
+pub record Reply : Type 0 where
+  pub status : ℕ
+  pub text : List ℕ
+  pub ending : Ending
+
+abbrev pub reply : Ending → List ℕ → Reply
+reply ending text = record { status = ending_code ending; text = text; ending = ending }
+
+-- an outcome whose report has no rows, and a text
+abbrev pub IsShort : Outcome → Type 0
+IsShort outcome = IsPrintable outcome × (has_rows outcome ≡ false)
+
+-- the reply with the report of an outcome
+abbrev pub outcome_reply : Outcome → Reply
+outcome_reply outcome = reply (ending_of outcome) (report_of outcome)
+
+-- ---- the reply to files that are loaded whole
+
+-- the name and the rejects of the first file
+abbrev pub first_file : Options → List FileBook → FileBook
+first_file o [] = record { name = []; book = book_of (keep_of o) [] }
+first_file o (file ∷ files) = file
+
+-- the only file of a batch as it is reported, whatever its table's room
+abbrev pub loaded_of : Options → Sniffed → BatchView → Stats → Loaded
+loaded_of o s batch stats = let file = first_file o batch.files in record {
+  sniffed = s;
+  table = record { types = batch.types; rows = batch.rows; spare = 0 };
+  book = file.book;
+  file = file.name;
+  store = o.store_rejects;
+  stats = then_some o.stats stats;
+}
+
+abbrev pub without_spare : Loaded → Loaded
+without_spare l = record l { table = record l.table { spare = 0 } }
+
+abbrev pub summary_reply : Loaded → List Seen → Reply
+summary_reply l taps = outcome_reply (outcomes.Summary l (tap_lines taps l.table.rows))
+
+-- the rows under the names that were found
+abbrev pub written_reply : Sniffed → BatchView → Reply
+written_reply s batch = reply (endings.Answered (all_in batch.files) s.other_delim) (written_table s.names batch.rows)
+
+abbrev pub database_reply : Options → Sniffed → BatchView → Reply
+database_reply o s batch =
+    reply (endings.Answered (all_in batch.files) s.other_delim) (database o.table s batch.rows (stored_files o.store_rejects batch.files))
+
+-- the stored rejects of the first file
+abbrev pub rejects_reply : Options → Sniffed → BatchView → Reply
+rejects_reply o s batch = reply (endings.Answered (all_in batch.files) s.other_delim) (written_rejects (first_file o batch.files).book.stored)
+
+abbrev pub whole_reply : Answer → Options → Sniffed → List Seen → BatchView → Stats → Reply
+whole_reply answers.Loaded o s taps batch stats = outcome_reply (outcomes.Loaded (loaded_of o s batch stats))
+whole_reply answers.Summary o s taps batch stats = summary_reply (loaded_of o s batch stats) taps
+whole_reply answers.Written o s taps batch stats = written_reply s batch
+whole_reply answers.Rejects o s taps batch stats = rejects_reply o s batch
+whole_reply answers.Database o s taps batch stats = database_reply o s batch
+whole_reply answers.Batch o s taps batch stats = outcome_reply (outcomes.Batch s batch o.store_rejects (then_some o.stats stats))
+
+-- ---- the reply to a load
+
+-- this reply, unless an outcome comes before it
+abbrev pub unless_refused : Reply → Option Outcome → Reply
+unless_refused r None = r
+unless_refused r (Some outcome) = outcome_reply outcome
+
+-- the outcome where the type of a column is given that isn't there
+abbrev pub no_column : Options → Sniffed → Option Outcome
+no_column o s = option_map (λ name. outcomes.Mismatch (NoColumn name s.names)) (missing_name o.column_types s.names)
+
+-- this reply, unless there are more faults than a bound
+abbrev pub or_too_many : Reply → Option ℕ → Reply
+or_too_many r None = r
+or_too_many r (Some bound) = outcome_reply (outcomes.TooManyFaults bound)
+
+abbrev pub bounded_reply : Answer → Options → Sniffed → List Seen → BatchView → Stats → Reply
+bounded_reply answer o s taps batch stats = or_too_many (whole_reply answer o s taps batch stats) (passed_bound o.max_errors (all_in batch.files))
+
+-- the outcome where a file of that name begins with another header than the first one
+abbrev pub other_header : Sniffed → List ℕ → Outcome
+other_header s file = outcomes.Mismatch (OtherHeader file s.names)
+
+-- all of it, or the first error, or a file that begins with another header
+abbrev pub whole_or_error : Answer → Options → Sniffed → List Seen → FilesLoad → Reply
+whole_or_error answer o s taps (loads.Whole batch stats) = bounded_reply answer o s taps batch stats
+whole_or_error answer o s taps (loads.FirstError reject) = outcome_reply (outcomes.FirstError s reject)
+whole_or_error answer o s taps (loads.OtherHeader file) = outcome_reply (other_header s file)
+
+abbrev pub fitting_reply : Answer → Options → Sniffed → List Seen → FilesLoad → Reply
+fitting_reply answer o s taps load =
+    if is_unfit answer s then outcome_reply (outcomes.Mismatch (TooManyColumns COLUMN_LIMIT)) else whole_or_error answer o s taps load
+
+-- the names of columns come first
+abbrev pub load_reply : Answer → Options → Sniffed → List Seen → FilesLoad → Reply
+load_reply answer o s taps load = unless_refused (fitting_reply answer o s taps load) (no_column o s)
+
+-- the answer with a database in its place, where one is wanted
+abbrev pub in_format : Options → Answer → Answer
+in_format o answer = if is_sqlite o.to then answers.Database else answer
+
+-- ---- the reply to inputs, each within its limit
+
+-- what `sniff` tells of an input: that a column isn't there, or what is found, and why where that is asked for
+abbrev pub sniffed_outcome : Options → List ℕ → Outcome
+sniffed_outcome o input = let s = found o input in
+    unwrap_or (no_column o s) (if o.explain then outcomes.Explained s (explanation o input s) else outcomes.Sniffed s)
+
+-- the reply of `sniff`, by the first
+abbrev pub sniffed_reply : Options → List (List ℕ) → Reply
+sniffed_reply o [] = outcome_reply (sniffed_outcome o [])
+sniffed_reply o (input ∷ inputs) = outcome_reply (sniffed_outcome o input)
+
+-- the reply by the load of inputs under names, each read under what is found in the first one
+abbrev pub inputs_reply : Answer → Options → List (List ℕ) → List Seen → List (List ℕ) → Reply
+inputs_reply answer o names taps inputs = let s = found_in_first o inputs in load_reply answer o s taps (load_of o s names inputs)
+
+-- ---- the reply to files as they were opened
+
+-- this reply, unless a file decides that isn't there or is over its limit
+abbrev pub opened_reply : (List (List ℕ) → Reply) → ℕ → List (Option (List ℕ)) → Reply
+opened_reply to_inputs limit opened = unless_refused (to_inputs (filter_map (λ input. input) opened)) (batch_refusal limit opened)
+
+-- ---- the reply to words
+
+-- the reply to a request whose file or files are named by a word, by what came of them as they were opened; `make` reads none
+abbrev pub request_reply : Command → Request → List ℕ → List Seen → List (Option (List ℕ)) → Reply
+request_reply Load request word taps opened = let o = request.options in
+    opened_reply (inputs_reply answers.Loaded o (word ∷ []) taps) o.max_input opened
+request_reply Sniff request word taps opened = let o = request.options in
+    opened_reply (sniffed_reply o) o.max_input opened
+request_reply Summary request word taps opened = let o = request.options in
+    opened_reply (inputs_reply answers.Summary o (word ∷ []) taps) o.max_input opened
+request_reply Convert request word taps opened = let o = request.options in
+    opened_reply (inputs_reply (in_format o answers.Written) o (word ∷ []) taps) o.max_input opened
+request_reply Rejects request word taps opened = let o = request.options in
+    opened_reply (inputs_reply answers.Rejects o (word ∷ []) taps) o.max_input opened
+request_reply Batch request word taps opened = let o = request.options in
+    opened_reply (inputs_reply (in_format o answers.Batch) o (file_names word) taps) o.max_input opened
+request_reply Make request word taps opened = reply (endings.Answered 0 None) (made_text request.number request.rows)
+
+abbrev pub words_reply : Result Request WordFault → List (List ℕ) → List Seen → List (Option (List ℕ)) → Reply
+words_reply (Err fault) words taps opened = outcome_reply (outcomes.Refused fault (word_at words fault.index))
+words_reply (Ok request) words taps opened = request_reply request.command request (word_at words 1) taps opened
+
+-- the names of the files that a command reads, and that words want to be read
+abbrev pub command_names : Command → List ℕ → List (List ℕ)
+command_names Load word = word ∷ []
+command_names Sniff word = word ∷ []
+command_names Summary word = word ∷ []
+command_names Convert word = word ∷ []
+command_names Rejects word = word ∷ []
+command_names Batch word = file_names word
+command_names Make word = []
+
+abbrev pub words_names : Result Request WordFault → List ℕ → List (List ℕ)
+words_names (Err fault) word = []
+words_names (Ok request) word = command_names request.command word
+
+-- what the files tell of those of some names; nothing has to be told where there is none
+abbrev pub told_of : List (List ℕ) → Option (List (List ℕ × List ℕ)) → Option (List (Option (List ℕ)))
+told_of [] held = Some []
+told_of (name ∷ names) None = None
+told_of (name ∷ names) (Some files) = Some (map (file_of files) (name ∷ names))
+
+-- the reply to words, with the files that are held and taps; none where it depends on files that aren't told, so that each clause of the
+-- top call reads the same for memory and for real files
+abbrev pub reply_of : List (List ℕ) → Option (List (List ℕ × List ℕ)) → List Seen → Option Reply
+reply_of words held taps = let asked = read_words words in
+    option_map (words_reply asked words taps) (told_of (words_names asked (word_at words 1)) held)

@@ -1,0 +1,222 @@
+// How what files come to is answered.
+ghost use Rattle.load_options.specs.Accepted.{IsAccepted};
+ghost use Rattle.std.specs.Prelude.{◌≡◌, ◌≤◌, ◌∷◌, [], false, true, length, map, All, IfOk};
+ghost use Rattle.column_taps.specs.Seen.{IsFresh};
+ghost use Rattle.csv_writer.specs.Writable.{IsWritableRow};
+ghost use Rattle.std.specs.Bool.{then_some};
+ghost use Rattle.report_text.specs.Printable.{IsPrintableBatch, IsPrintableLoad};
+ghost use Rattle.report_text.specs.declared.outcome.Outcome.TheVariants as outcomes;
+ghost use Rattle.value_types.specs.OfType.{fit_all};
+ghost use Rattle.loader_reply.specs.Fitting.{is_of_one};
+ghost use Rattle.loader_reply.specs.Reply.{in_format, inputs_reply, loaded_of, opened_reply, sniffed_reply, summary_reply, whole_reply, without_spare, written_reply};
+ghost use Rattle.loader_reply.specs.Batch.{names_of};
+ghost use Rattle.loader_reply.specs.Replying.{IsReplyBy, IsStopReply};
+ghost use Rattle.loader_reply.specs.Reply.{IsShort, outcome_reply};
+
+use crate::ending::Ending;
+use crate::loader::Loader;
+use crate::reply::Reply;
+use crate::reply_text::ReplyText;
+use crate::showing::tap_lines;
+use column_taps::RowTap;
+use csv_sniffer::Sniffed;
+use csv_source::{Bytes, Gate, NoMemory, Source};
+use csv_writer::write_table;
+use file_list::Batch;
+use load_options::is_sqlite;
+use report_text::{Loaded, Outcome, Stats, all_in, render_batch, render_loaded};
+use std::sync::Wait;
+use std::thread::Threads;
+use text_pieces::Workers;
+use window_load::LoadStop;
+
+/// How a load is answered.
+#[derive(Clone, Copy, Debug, PartialEq, Eq)]
+pub enum Answer {
+    /// By the report of the only file.
+    Loaded,
+    /// By the report of the only file, with the lines of the taps in place of its rows.
+    Summary,
+    /// By the rows as CSV.
+    Written,
+    /// By the stored rejects of the only file as CSV.
+    Rejects,
+    /// By the rows, and the rejects that are stored, as a database.
+    Database,
+    /// By the report of several files.
+    Batch,
+}
+
+impl<'a, R: Threads + Sync, G> Loader<'a, R, G> {
+    /// The reply with the report of an outcome that has no rows.
+    pub fn report(&self, outcome: Outcome) -> Result<Reply, NoMemory>
+        requires { IsShort outcome }
+        ensures { IfOk result (λ r. r ≡ outcome_reply outcome) }
+    {
+        Reply::report(self.alloc, outcome)
+    }
+
+    /// Who makes the rows of a text.
+    fn workers(&self) -> Workers<'a, R>
+        ensures { result.threads ≡ self.now.options.now.threads }
+    {
+        Workers {
+            rt: self.rt,
+            alloc: self.alloc,
+            threads: self.options.threads,
+        }
+    }
+
+    /// The reply where the reading of files stopped.
+    fn stopped_reply(&self, stop: LoadStop) -> Result<Reply, NoMemory>
+        ensures ok { IfOk result (IsStopReply self.now.options.now.max_input stop) }
+    {
+        match stop {
+            LoadStop::TooLarge => self.report(Outcome::TooLarge(self.options.max_input)),
+            LoadStop::Failed => self.report(Outcome::ReadFault),
+            LoadStop::NoMemory => Err(NoMemory),
+        }
+    }
+
+    /// The only file of a batch as it is reported.
+    fn loaded_of(&self, sniffed: Sniffed, batch: Batch, stats: Stats) -> Loaded
+        requires one { length batch.files ≡ 1 }
+        ensures { without_spare result ≡ loaded_of self.now.options.now sniffed batch stats }
+    {
+        let (table, file) = batch.into_only();
+        Loaded {
+            sniffed,
+            table,
+            book: file.book,
+            file: file.name,
+            store: self.options.store_rejects,
+            stats: self.options.stats.then_some(stats),
+        }
+    }
+
+    /// The reply with the report of a loaded file, whose rows are shown to taps.
+    fn summary_reply(&self, loaded: Loaded, taps: Vec<Box<dyn RowTap>>) -> Result<Reply, NoMemory>
+        requires printable { IsPrintableLoad loaded }
+        requires fresh { All (λ tap. IsFresh (seen tap)) taps.items }
+        ensures ok { IfOk result (λ r. r ≡ summary_reply loaded (map seen taps.items)) }
+    {
+        let lines = tap_lines(self.alloc, &loaded.table, taps)?;
+        self.report(Outcome::Summary(loaded, Bytes::from_vec(lines)))
+    }
+
+    /// The reply with the report of a loaded file, rows and all.
+    fn loaded_report(&self, loaded: Loaded) -> Result<Reply, NoMemory>
+        requires { IsPrintableLoad loaded }
+        ensures { IfOk result (λ r. r ≡ outcome_reply (outcomes.Loaded loaded)) }
+    {
+        let (faults, delim) = (loaded.book.all(), loaded.sniffed.other_delim);
+        let text = render_loaded(&self.workers(), loaded)?;
+        Ok(Reply::new(Ending::Answered(faults, delim), ReplyText::Report(text)))
+    }
+
+    /// The reply with the report of several files, rows and all.
+    fn batch_report(&self, sniffed: Sniffed, batch: Batch, stats: Stats) -> Result<Reply, NoMemory>
+        requires { IsPrintableBatch sniffed batch }
+        ensures { let o = self.now.options.now in
+            IfOk result (λ r. r ≡ outcome_reply (outcomes.Batch sniffed batch o.store_rejects (then_some o.stats stats))) }
+    {
+        let faults = all_in(&batch)?;
+        let delim = sniffed.other_delim;
+        let (store, stats) = (
+            self.options.store_rejects,
+            self.options.stats.then_some(stats),
+        );
+        let text = render_batch(&self.workers(), &sniffed, batch, store, stats)?;
+        Ok(Reply::new(Ending::Answered(faults, delim), ReplyText::Report(text)))
+    }
+
+    /// The reply with the rows of files as CSV, under the names that were found.
+    fn written_reply(&self, sniffed: &Sniffed, batch: Batch) -> Result<Reply, NoMemory>
+        requires printable { IsPrintableBatch sniffed.now batch }
+        ensures ok { IfOk result (λ r. r ≡ written_reply sniffed.now batch) }
+    {
+        let faults = all_in(&batch)?;
+        let text = write_table(&self.workers(), &sniffed.names, batch.into_table())?;
+        Ok(Reply::new(
+            Ending::Answered(faults, sniffed.other_delim),
+            ReplyText::Table(text),
+        ))
+    }
+
+    /// The reply to files that are loaded whole.
+    pub fn whole_reply(
+        &self,
+        answer: Answer,
+        sniffed: Sniffed,
+        batch: Batch,
+        stats: Stats,
+        taps: Vec<Box<dyn RowTap>>,
+    ) -> Result<Reply, NoMemory>
+        requires accepted { IsAccepted self.now.options.now }
+        requires one { is_of_one answer ≡ true → length batch.files ≡ 1 }
+        requires printable { IsPrintableBatch sniffed batch }
+        requires fresh { All (λ tap. IsFresh (seen tap)) taps.items }
+        ensures ok { IfOk result (λ r. r ≡ whole_reply answer self.now.options.now sniffed (map seen taps.items) batch stats) }
+    {
+        match answer {
+            Answer::Loaded => self.loaded_report(self.loaded_of(sniffed, batch, stats)),
+            Answer::Summary => self.summary_reply(self.loaded_of(sniffed, batch, stats), taps),
+            Answer::Written => self.written_reply(&sniffed, batch),
+            Answer::Rejects => self.rejects_reply(&sniffed, batch),
+            Answer::Database => self.database_reply(&sniffed, &batch),
+            Answer::Batch => self.batch_report(sniffed, batch, stats),
+        }
+    }
+
+    /// The answer with a database in its place, where one is wanted.
+    pub fn in_format(&self, answer: Answer) -> Answer
+        ensures { result ≡ in_format self.now.options.now answer }
+    {
+        if is_sqlite(self.options.to) {
+            Answer::Database
+        } else {
+            answer
+        }
+    }
+
+    /// The reply of `sniff` by the file of that name.
+    pub fn sniffed_reply<S: Source>(&self, name: &str, source: &mut S) -> Result<Reply, NoMemory>
+        requires accepted { IsAccepted self.now.options.now }
+        ensures ok { let o = self.now.options.now in
+            IfOk result (IsReplyBy o.max_input (opened_reply (sniffed_reply o) o.max_input) (name.now ∷ [])
+            (S.held source.old) (S.left source.new) (S.faults source.old) (S.faults source.new)) }
+        ensures held { S.held source.new ≡ S.held source.old }
+        ensures count { S.faults source.old ≤ S.faults source.new }
+    {
+        match self.sniff_file(name, source) {
+            Ok(outcome) => self.report(outcome),
+            Err(stop) => self.stopped_reply(stop),
+        }
+    }
+}
+
+impl<'a, R: Threads + Wait + Sync, G: Gate> Loader<'a, R, G> {
+    /// The reply by the load of the file of a name, or of the files of several in one word.
+    pub fn loaded_reply<S: Source + Send>(
+        &self,
+        answer: Answer,
+        word: &str,
+        several: bool,
+        source: &mut S,
+        taps: Vec<Box<dyn RowTap>>,
+    ) -> Result<Reply, NoMemory>
+        requires accepted { IsAccepted self.now.options.now }
+        requires one { is_of_one answer ≡ true → several ≡ false }
+        requires fresh { All (λ tap. IsFresh (seen tap)) taps.items }
+        ensures ok { let o = self.now.options.now in let names = names_of several word.now in
+            IfOk result (IsReplyBy o.max_input (opened_reply (inputs_reply answer o names (map seen taps.items)) o.max_input) names
+            (S.held source.old) (S.left source.new) (S.faults source.old) (S.faults source.new)) }
+        ensures held { S.held source.new ≡ S.held source.old }
+        ensures count { S.faults source.old ≤ S.faults source.new }
+    {
+        match self.load_files(word, several, source) {
+            Ok((sniffed, load)) => self.load_reply(answer, sniffed, load, taps),
+            Err(stop) => self.stopped_reply(stop),
+        }
+    }
+}

@@ -1,0 +1,102 @@
+// How a run ended, with what was found out.
+ghost use Rattle.std.specs.Prelude.{◌≡◌, ◌≢◌, IfOk};
+ghost use Rattle.report_text.specs.declared.outcome.Outcome.TheVariants as outcomes;
+ghost use Rattle.loader_reply.specs.Ending.{ending_code, ending_of, ending_status};
+
+use crate::status::Status;
+use csv_sniffer::Sniffed;
+use csv_source::NoMemory;
+use load_options::WordFault;
+use reject_book::Reject;
+use report_text::{Mismatch, Outcome};
+
+/// How a run ended.
+#[derive(Drop)]
+pub enum Ending {
+    /// The whole report, written table, database or made text was written. So many faults of rows were passed over, stored or not: 0
+    /// for `sniff` and `make`. Where one column was found there may be another delimiter under which rows would mostly have
+    /// several fields.
+    Answered(u64, Option<u8>),
+    /// The words were refused.
+    Refused(WordFault),
+    /// The file that was opened last could not be opened or read.
+    ReadFault,
+    /// The load ended with its first error: what was found in the file, of `batch` in the first one, and the reject, whose
+    /// `file_id` is the file's number.
+    FirstError(Sniffed, Reject),
+    /// The words don't fit what was found in the file, of `batch` in the first one.
+    Mismatch(Mismatch),
+    /// The text could not be written whole.
+    WriteFault,
+    /// No memory could be had.
+    NoMemory,
+    /// The file that was opened last is over this limit, in bytes.
+    TooLarge(u64),
+    /// The file, or all files of `batch` together, have more faults of rows than this bound.
+    TooManyFaults(u64),
+}
+
+impl Ending {
+    /// The ending that goes with an outcome, once its report is written.
+    pub(crate) fn of(outcome: Outcome) -> Result<Ending, NoMemory>
+        ensures ok { IfOk result (λ ending. ending ≡ ending_of outcome) }
+    {
+        match outcome {
+            Outcome::Mismatch(mismatch) => Ok(Ending::Mismatch(mismatch)),
+            Outcome::FirstError(sniffed, reject) => Ok(Ending::FirstError(sniffed, reject)),
+            other => {
+                let ending = Ending::told(&other);
+                // As one value: where a scope's end lets it go, the proof goes through the parts of each variant.
+                drop(other);
+                ending
+            }
+        }
+    }
+
+    /// The ending of an outcome of which no part is kept.
+    fn told(outcome: &Outcome) -> Result<Ending, NoMemory>
+        requires fits { (mismatch : _) → outcome.now ≢ outcomes.Mismatch mismatch }
+        requires passed { (s : _) (reject : _) → outcome.now ≢ outcomes.FirstError s reject }
+        ensures ok { IfOk result (λ ending. ending ≡ ending_of outcome.now) }
+    {
+        match outcome {
+            Outcome::Refused(fault, _) => Ok(Ending::Refused(*fault)),
+            Outcome::ReadFault => Ok(Ending::ReadFault),
+            Outcome::TooLarge(limit) => Ok(Ending::TooLarge(*limit)),
+            Outcome::TooManyFaults(bound) => Ok(Ending::TooManyFaults(*bound)),
+            Outcome::Sniffed(sniffed)
+            | Outcome::Explained(sniffed, _)
+            | Outcome::Batch(sniffed, ..) => {
+                Ok(Ending::Answered(outcome.faults()?, sniffed.other_delim))
+            }
+            Outcome::Loaded(loaded) | Outcome::Summary(loaded, _) => {
+                Ok(Ending::Answered(outcome.faults()?, loaded.sniffed.other_delim))
+            }
+            Outcome::Mismatch(_) | Outcome::FirstError(..) => unreachable!(),
+        }
+    }
+
+    /// The same with nothing of what was found out.
+    pub fn status(&self) -> Status
+        ensures { result ≡ ending_status self.now }
+    {
+        match self {
+            Ending::Answered(..) => Status::Answered,
+            Ending::Refused(_) => Status::Refused,
+            Ending::ReadFault => Status::ReadFault,
+            Ending::FirstError(..) => Status::FirstError,
+            Ending::Mismatch(_) => Status::Mismatch,
+            Ending::WriteFault => Status::WriteFault,
+            Ending::NoMemory => Status::NoMemory,
+            Ending::TooLarge(_) => Status::TooLarge,
+            Ending::TooManyFaults(_) => Status::TooManyFaults,
+        }
+    }
+
+    /// The exit status of the program.
+    pub fn code(&self) -> u8
+        ensures { result ≡ ending_code self.now }
+    {
+        self.status().code()
+    }
+}

@@ -1,0 +1,176 @@
+// The load of the data.
+ghost use Rattle.load_options.specs.Accepted.{IsAccepted};
+ghost use Rattle.std.specs.Prelude.{◌≡◌, ◌+◌, ◌≤◌, ◌^◌, true, length, drop, IfOk, Err};
+ghost use Rattle.std.specs.Io.KnownBytes.{IsAtEnd};
+ghost use Rattle.csv_source.specs.Causes.{Rose};
+ghost use Rattle.load_options.specs.declared.limits.TheConstants.{MAX_LINE_SIZE};
+ghost use Rattle.range_scan.specs.Scanned.{HasColumns};
+ghost use Rattle.reject_book.specs.Kept.{raised};
+ghost use Rattle.reject_book.specs.declared.book.Keep.TheVariants.{First as first_of};
+ghost use Rattle.window_load.specs.DataRead.{ComesWhole, ComesOver, IsWindowRead};
+ghost use Rattle.window_load.specs.declared.stop.LoadStop.TheVariants as stops;
+ghost use Rattle.csv_sniffer.specs.Input.{place_under};
+ghost use Rattle.loader_reply.specs.Loading.{IsHead, IsFileLoad, IsRaised, stops_at_error};
+ghost use Rattle.loader_reply.specs.Reading.{schema_of};
+
+use crate::context::context_of;
+use crate::loader::Loader;
+use byte_classes::count_line_ends;
+use column_store::Table;
+use csv_sniffer::Sniffed;
+use csv_source::{Gate, NoMemory, Source};
+use load_options::Options;
+use pipe_load::pipe_load;
+use range_scan::Context;
+use reject_book::{Book, Keep, Reject};
+use report_text::Stats;
+use std::alloc::Global;
+use std::sync::Wait;
+use std::thread::Threads;
+use window_load::{
+    DataLoader, DataRead, InputWindow, LoadStop, WindowRead, append_book, sum_of, window_load,
+};
+
+/// The good rows of the data, their rejects, and what their reading took.
+#[derive(Drop)]
+pub struct LoadedData {
+    pub table: Table,
+    pub book: Book,
+    pub stats: Stats,
+}
+
+/// What the data of a file come to.
+#[derive(Drop)]
+pub enum FileLoad {
+    Whole(LoadedData),
+    /// The load ends with its first error.
+    FirstError(Reject),
+    /// The file doesn't begin with the header of the first one, as it has to.
+    OtherHeader,
+}
+
+/// Whether the first error ends the load.
+fn stops_at_error(options: &Options) -> bool
+    ensures { result ≡ stops_at_error options.now }
+{
+    !(options.ignore_errors || options.store_rejects)
+}
+
+/// A reject behind some lines. What can't be counted counts as want of memory.
+fn raised(reject: Reject, lines: u64) -> Result<Reject, NoMemory>
+    ensures ok { IfOk result (λ r. r ≡ raised lines reject) }
+{
+    let mut reject = reject;
+    reject.line = sum_of(lines, reject.line)?;
+    Ok(reject)
+}
+
+/// What was read of the data, behind the line ends before them.
+fn loaded_data(
+    alloc: Global,
+    keep: Keep,
+    read: DataRead,
+    lines: u64,
+) -> Result<LoadedData, NoMemory>
+    requires same { read.book.keep ≡ keep }
+    ensures ok { IfOk result (λ loaded. IsRaised keep lines read loaded) }
+{
+    let DataRead {
+        table,
+        book,
+        length,
+        ranges,
+        rescans,
+        rescanned,
+        ..
+    } = read;
+    let mut raised = Book::new(alloc, keep);
+    append_book(&mut raised, book, lines)?;
+    let scanned = sum_of(length, rescanned)?;
+    Ok(LoadedData {
+        table,
+        book: raised,
+        stats: Stats {
+            ranges,
+            rescans,
+            scanned,
+        },
+    })
+}
+
+impl<'a, R: Threads + Wait + Sync, G: Gate> Loader<'a, R, G> {
+    /// Reads the data in windows, or where `pipeline` says so while stages scan what came of them.
+    fn read_data<S: Source + Send>(
+        &self,
+        context: &Context,
+        head: InputWindow,
+        start: usize,
+        source: &mut S,
+        stop: bool,
+    ) -> Result<WindowRead, LoadStop>
+        requires accepted { IsAccepted self.now.options.now }
+        requires begins { head.base ≡ 0 }
+        requires place { start ≤ length head.kept }
+        requires room { head.most ≤ 2 ^ 32 }
+        requires at_end { head.ended ≡ true → IsAtEnd (S.left source.old) }
+        requires line { context.now.schema.max_line_size ≤ MAX_LINE_SIZE.most }
+        requires fits { HasColumns context.now.schema }
+        requires keep { stop ≡ true → context.now.keep ≡ first_of 1 }
+        ensures ok { IfOk result (λ read. ComesWhole (S.left source.old) (S.left source.new) head
+            (λ input. IsWindowRead context.now (drop start input) start self.now.options.now.range_size stop read)) }
+        ensures too_large { result ≡ Err stops.TooLarge → ComesOver (S.left source.old) (S.left source.new) head }
+        ensures failed { result ≡ Err stops.Failed → Rose (S.faults source.old) (S.faults source.new) }
+        ensures held { S.held source.new ≡ S.held source.old }
+        ensures count { S.faults source.old ≤ S.faults source.new }
+    {
+        let loader = DataLoader {
+            rt: self.rt,
+            alloc: self.alloc,
+            context,
+            range_size: self.options.range_size,
+            stop,
+            threads: self.options.threads,
+            gate: self.gate,
+        };
+        if self.options.pipeline {
+            return pipe_load(&loader, head, start, source);
+        }
+        window_load(&loader, head, start, source)
+    }
+
+    /// Loads the data of the file of a number, which begin at `start`, under the dialect and the columns that were found in
+    /// it or in another file. The number, from 0, stands in its rejects.
+    pub fn load_data<S: Source + Send>(
+        &self,
+        sniffed: &Sniffed,
+        file_id: u64,
+        head: InputWindow,
+        start: usize,
+        source: &mut S,
+    ) -> Result<FileLoad, LoadStop>
+        requires accepted { IsAccepted self.now.options.now }
+        requires head { IsHead self.now.options.now.skip self.now.options.now.max_input head }
+        requires columns { HasColumns (schema_of self.now.options.now sniffed.now) }
+        requires place { start ≡ place_under self.now.options.now sniffed.now head.kept }
+        requires within { start ≤ length head.kept }
+        requires at_end { head.ended ≡ true → IsAtEnd (S.left source.old) }
+        ensures ok { IfOk result (λ load. ComesWhole (S.left source.old) (S.left source.new) head
+            (λ input. IsFileLoad self.now.options.now sniffed.now file_id input load)) }
+        ensures too_large { result ≡ Err stops.TooLarge → ComesOver (S.left source.old) (S.left source.new) head }
+        ensures failed { result ≡ Err stops.Failed → Rose (S.faults source.old) (S.faults source.new) }
+        ensures held { S.held source.new ≡ S.held source.old }
+        ensures count { S.faults source.old ≤ S.faults source.new }
+    {
+        let context = context_of(self.alloc, self.options, sniffed, file_id)?;
+        let lines = count_line_ends(&head.bytes()[..start], None);
+        let stop = stops_at_error(self.options);
+        let read = self.read_data(&context, head, start, source, stop)?;
+        match read {
+            WindowRead::All(read) => {
+                let loaded = loaded_data(self.alloc, context.keep, read, lines)?;
+                Ok(FileLoad::Whole(loaded))
+            }
+            WindowRead::Stopped(reject) => Ok(FileLoad::FirstError(raised(reject, lines)?)),
+        }
+    }
+}

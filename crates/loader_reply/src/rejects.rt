@@ -1,0 +1,29 @@
+// The rejects of a load as CSV.
+ghost use Rattle.std.specs.Prelude.{◌≡◌, length, IfOk};
+ghost use Rattle.loader_reply.specs.Reply.{rejects_reply};
+
+use crate::ending::Ending;
+use crate::loader::Loader;
+use crate::reply::Reply;
+use crate::reply_text::ReplyText;
+use csv_sniffer::Sniffed;
+use csv_source::NoMemory;
+use file_list::Batch;
+use reject_writer::write_rejects;
+use report_text::all_in;
+
+impl<'a, R, G> Loader<'a, R, G> {
+    /// The reply with the stored rejects of the only file.
+    pub fn rejects_reply(&self, sniffed: &Sniffed, batch: Batch) -> Result<Reply, NoMemory>
+        requires one { length batch.files ≡ 1 }
+        ensures ok { IfOk result (λ r. r ≡ rejects_reply self.now.options.now sniffed.now batch) }
+    {
+        let faults = all_in(&batch)?;
+        let (_table, file) = batch.into_only();
+        let text = write_rejects(self.alloc, &file.book)?;
+        Ok(Reply::new(
+            Ending::Answered(faults, sniffed.other_delim),
+            ReplyText::Whole(text),
+        ))
+    }
+}

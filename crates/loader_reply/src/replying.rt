@@ -1,0 +1,120 @@
+// The reply to words.
+ghost use Rattle.load_options.specs.Accepted.{IsAccepted};
+ghost use Rattle.std.specs.Prelude.{◌≡◌, ◌≤◌, false, true, None, map, All, IfOk};
+ghost use Rattle.column_taps.specs.Seen.{IsFresh};
+ghost use Rattle.load_options.specs.Commands.{is_make};
+ghost use Rattle.load_options.specs.Texts.{word_at};
+ghost use Rattle.load_options.specs.declared.limits.TheConstants.{ROW_LIMIT};
+ghost use Rattle.report_text.specs.MadeText.{made_text};
+ghost use Rattle.report_text.specs.declared.outcome.Outcome.TheVariants as outcomes;
+ghost use Rattle.loader_reply.specs.declared.ending.Ending.TheVariants as endings;
+ghost use Rattle.loader_reply.specs.declared.status.Status.TheVariants as statuses;
+ghost use Rattle.loader_reply.specs.Ending.{status_code};
+ghost use Rattle.loader_reply.specs.Replying.{ReadsFile, ReadsNoFile, IsReplyBy, IsReplyTo};
+ghost use Rattle.loader_reply.specs.Reply.{texts, reply, outcome_reply, command_names, request_reply};
+
+use crate::answering::Answer;
+use crate::ending::Ending;
+use crate::loader::Loader;
+use crate::reply::Reply;
+use crate::reply_text::ReplyText;
+use column_taps::RowTap;
+use csv_source::{Bytes, Gate, NoMemory, Source};
+use load_options::{Command, Request, WordFault, WordStop, parse_words, word_at};
+use report_text::{Outcome, make_text};
+use std::alloc::Global;
+use std::sync::Wait;
+use std::thread::Threads;
+use text_pieces::Pieces;
+
+/// The reply to words that are refused.
+fn reply_to_refused(alloc: Global, words: &[String], fault: WordFault) -> Result<Reply, NoMemory>
+    ensures ok { IfOk result (λ r. r ≡ outcome_reply (outcomes.Refused fault (word_at (texts words.now) fault.index))) }
+{
+    let word = Bytes::copy_of(alloc, word_at(words, fault.index).as_bytes())?;
+    Reply::report(alloc, Outcome::Refused(fault, word))
+}
+
+/// The reply of `make`.
+fn made_reply(alloc: Global, request: &Request) -> Result<Reply, NoMemory>
+    requires within { request.now.rows ≤ ROW_LIMIT }
+    ensures ok { IfOk result (λ r. r ≡ reply (endings.Answered 0 None) (made_text request.now.number request.now.rows)) }
+{
+    let text = make_text(alloc, request.number, request.rows)?;
+    Ok(Reply::new(
+        Ending::Answered(0, None),
+        ReplyText::Whole(Pieces::of(alloc, text)),
+    ))
+}
+
+impl<'a, R: Threads + Wait + Sync, G: Gate> Loader<'a, R, G> {
+    /// The reply to a request with these options, whose file or files are named by that word.
+    fn reply_to_request<S: Source + Send>(
+        &self,
+        request: &Request,
+        word: &str,
+        source: &mut S,
+        taps: Vec<Box<dyn RowTap>>,
+    ) -> Result<Reply, NoMemory>
+        requires accepted { IsAccepted self.now.options.now }
+        requires same { self.now.options.now ≡ request.now.options }
+        requires rows { request.now.rows ≤ ROW_LIMIT }
+        requires fresh { All (λ tap. IsFresh (seen tap)) taps.items }
+        ensures ok { let command = request.now.command in
+            IfOk result (IsReplyBy request.now.options.max_input (request_reply command request.now word.now (map seen taps.items)) (command_names command word.now)
+            (S.held source.old) (S.left source.new) (S.faults source.old) (S.faults source.new)) }
+        ensures fault_of_file { IfOk result (λ r. r.status ≡ status_code statuses.ReadFault → is_make request.now.command ≡ false) }
+        ensures untouched { is_make request.now.command ≡ true → source.new ≡ source.old }
+        ensures held { S.held source.new ≡ S.held source.old }
+        ensures count { S.faults source.old ≤ S.faults source.new }
+    {
+        match request.command {
+            Command::Make => made_reply(self.alloc, request),
+            Command::Sniff => self.sniffed_reply(word, source),
+            Command::Load => self.loaded_reply(Answer::Loaded, word, false, source, taps),
+            Command::Rejects => self.loaded_reply(Answer::Rejects, word, false, source, taps),
+            Command::Summary => self.loaded_reply(Answer::Summary, word, false, source, taps),
+            Command::Convert => {
+                let answer = self.in_format(Answer::Written);
+                self.loaded_reply(answer, word, false, source, taps)
+            }
+            Command::Batch => {
+                let answer = self.in_format(Answer::Batch);
+                self.loaded_reply(answer, word, true, source, taps)
+            }
+        }
+    }
+}
+
+/// Reads what the words want, and makes the reply.
+pub fn reply_to<R: Threads + Wait + Sync, S: Source + Send, G: Gate>(
+    rt: &R,
+    alloc: Global,
+    words: &[String],
+    source: &mut S,
+    gate: &G,
+    taps: Vec<Box<dyn RowTap>>,
+) -> Result<Reply, NoMemory>
+    requires fresh { All (λ tap. IsFresh (seen tap)) taps.items }
+    ensures ok { IfOk result (IsReplyTo (texts words.now) (map seen taps.items)
+        (S.held source.old) (S.left source.new) (S.faults source.old) (S.faults source.new)) }
+    ensures fault_of_file { IfOk result (λ r. r.status ≡ status_code statuses.ReadFault → ReadsFile (texts words.now)) }
+    ensures untouched { ReadsNoFile (texts words.now) → source.new ≡ source.old }
+    ensures held { S.held source.new ≡ S.held source.old }
+    ensures count { S.faults source.old ≤ S.faults source.new }
+{
+    match parse_words(alloc, words) {
+        Ok(request) => {
+            let options = &request.options;
+            let loader = Loader {
+                rt,
+                alloc,
+                options,
+                gate,
+            };
+            loader.reply_to_request(&request, word_at(words, 1), source, taps)
+        }
+        Err(WordStop::Fault(fault)) => reply_to_refused(alloc, words, fault),
+        Err(WordStop::NoMemory) => Err(NoMemory),
+    }
+}

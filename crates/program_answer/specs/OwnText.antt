@@ -1,0 +1,32 @@
+-- The words that ask for a text of the program's own, and not for a run.
+use Rattle.std.specs.Prelude.{◌≡◌, ◌⊎◌, ℕ, ◌||◌, Bool, if◌then◌else◌, List, codes, Option, Some, None}
+use Rattle.std.specs.Io.KnownBytes.{Appends}
+use Rattle.std.specs.Str.{bytes_eq}
+use Rattle.csv_source.specs.Causes.{Rose}
+use Rattle.csv_source.specs.Moves.{AppendsFront}
+use Rattle.load_options.specs.Texts.{word_at}
+use Rattle.loader_reply.specs.declared.ending.Ending.{Ending}
+use Rattle.loader_reply.specs.declared.ending.Ending.TheVariants.{Answered, WriteFault}
+use Rattle.program_answer.specs.declared.answering.OwnText.{OwnText}
+use Rattle.program_answer.specs.declared.answering.OwnText.TheVariants.{Help, Version}
+
+-- the options that ask for help wherever a command or a file may stand
+abbrev pub is_help_option : List ℕ → Bool
+is_help_option word = bytes_eq word (codes "--help") || bytes_eq word (codes "-h")
+
+abbrev pub asks_help : List (List ℕ) → Bool
+asks_help words = bytes_eq (word_at words 0) (codes "help") || is_help_option (word_at words 0) || is_help_option (word_at words 1)
+
+abbrev pub asks_version : List (List ℕ) → Bool
+asks_version words =
+    bytes_eq (word_at words 0) (codes "version") || bytes_eq (word_at words 0) (codes "--version") || bytes_eq (word_at words 0) (codes "-V")
+
+-- the text that words ask for; none where they are the loader's
+abbrev pub own_text : List (List ℕ) → Option OwnText
+own_text words = if asks_help words then Some Help else (if asks_version words then Some Version else None)
+
+-- a text was written whole, or the sink failed and took a front
+abbrev pub IsTold : List ℕ → ℕ → ℕ → Option (List ℕ) → Option (List ℕ) → Ending → Type 0
+IsTold text faults_before faults_after before after ending =
+    ((ending ≡ Answered 0 None) × Appends before after text)
+    ⊎ ((ending ≡ WriteFault) × Rose faults_before faults_after × AppendsFront before after text)
