@@ -1,7 +1,8 @@
 -- Types that are given to columns by their names (this loader's profile).
-use Rattle.std.specs.Prelude.{ℕ, not, List, [], ◌∷◌, Option, slice_get, option_and_then, unwrap_or}
+use Rattle.std.specs.Prelude.{◌≡◌, ℕ, not, List, [], ◌∷◌, Option, slice_get, option_and_then, unwrap_or}
 use Rattle.std.specs.Option.{is_some}
 use Rattle.std.specs.List.{find, position_from}
+use Rattle.std.specs.Map.{lookup}
 use Rattle.std.specs.Str.{bytes_eq}
 use Rattle.value_types.specs.declared.types.ColumnType.{ColumnType}
 use Rattle.load_options.specs.declared.options.ColumnTypes.{ColumnTypes}
@@ -9,6 +10,10 @@ use Rattle.load_options.specs.declared.options.ColumnTypes.{ColumnTypes}
 -- the place of a name among some, from 0
 abbrev pub place_of : List (List ℕ) → List ℕ → Option ℕ
 place_of names name = position_from (bytes_eq name) 0 names
+
+-- what is noted for each key is the place of its text among some names
+abbrev pub ArePlaces : {K : Type 0} → List (List ℕ) → List (K × ℕ) → (K → List ℕ) → Type 0
+ArePlaces {K} names noted text = (key : K) → lookup (λ other. bytes_eq (text key) (text other)) noted ≡ place_of names (text key)
 
 -- the type that is given to columns of a name
 abbrev pub type_given : ColumnTypes → List ℕ → Option ColumnType

@@ -16,11 +16,11 @@ pub record IsUnwritten (count : ℕ) (group : Group) : Type 0 where
   pub within : group.to ≤ count
   pub leaves : group.leaves ≡ None
 
--- a group of these rows, whose leaves are those of its own, where they are written
+-- a group of these rows, whose leaves are those of its own behind its own pages, where they are written
 pub record HoldsRows (rows : List (List Datum)) (group : Group) : Type 0 where
   pub ordered : group.from ≤ group.to
   pub within : group.to ≤ length rows
-  pub leaves : IfSome group.leaves (λ leaves. leaves ≡ filled leaves.base (group.from + 1) (records_of (slice_range rows group.from group.to)))
+  pub leaves : IfSome group.leaves (λ leaves. leaves ≡ filled group.base (group.from + 1) (records_of (slice_range rows group.from group.to)))
 
 -- the same group, with its leaves unless memory was wanting
 pub record WritesGroup (rows : List (List Datum)) (old new : Group) : Type 0 where

@@ -1,9 +1,9 @@
 // Groups of blocks of rows, each written by one worker.
-ghost use Rattle.std.specs.Prelude.{◌≡◌, ◌<◌, ◌≤◌, ◌%◌, ◌⊎◌, ℕ, List, [], length, slice_index_or, slice_range, All, IfOk, OnOk};
+ghost use Rattle.std.specs.Prelude.{◌≡◌, ◌<◌, ◌≤◌, ◌%◌, ◌⊎◌, ℕ, List, [], length, slice_index_or, slice_range, true, All, IfOk, IfSome, OnOk};
 ghost use Rattle.load_options.specs.declared.limits.TheConstants.{THREADS};
 ghost use Rattle.csv_writer.specs.Writable.{IsWritableRow};
 ghost use Rattle.value_types.specs.Datum.{Datum};
-ghost use Rattle.db_pages.specs.Grown.{grown};
+ghost use Rattle.db_pages.specs.Grown.{closed, grown, holds_at};
 ghost use Rattle.db_writer.specs.Groups.{AreBlocks, HoldsRows, IsUnwritten, WritesGroup};
 ghost use Rattle.db_writer.specs.Written.{records_of};
 
@@ -102,7 +102,8 @@ pub(crate) fn write_groups<R: Threads + Sync>(
 
 /// Finds where a group stands, and where the next one begins. Leaves that don't hold there are let go.
 fn place_group(group: &mut Group, place: u64) -> Result<u64, NoMemory>
-    ensures { (rows : List (List Datum)) → HoldsRows rows group.old → WritesGroup rows group.old group.new }
+    ensures holds { (rows : List (List Datum)) → HoldsRows rows group.old → WritesGroup rows group.old group.new }
+    ensures placed { OnOk result (IfSome group.new.leaves (λ leaves. holds_at place (closed leaves) ≡ true)) }
 {
     let Some(leaves) = &group.leaves else {
         return Err(NoMemory);

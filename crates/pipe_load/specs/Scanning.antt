@@ -54,7 +54,7 @@ pub record HasScanned (context : Context) (l : Layout) (stage : Stage) : Type 0 
 
 -- ---- one look of a stage
 
--- a window was taken that is kept scanned, behind those that were kept; or an end mark; or there was nothing, since the queue was empty
+-- a window was taken that is kept scanned, behind those that were kept; or an end mark; or there was nothing, where by what the stage knows the queue can have been empty
 abbrev pub Takes : Context → Layout → Stage → Stage → Took → Type 0
 Takes context l old new took.Window = (kept : Kept) × IsScanned context l kept
     × (view new.pass ≡ after_take (view old.pass) (item.Window kept.window)) × (new.kept.items ≡ old.kept.items ++ kept ∷ [])
@@ -63,7 +63,7 @@ Takes context l old new took.Nothing = WasEmpty (view old.pass) × (view new.pas
 
 -- ---- all looks of a stage
 
--- it took one more end mark, or the queue was empty at a moment
+-- it took one more end mark, or by what it knows the queue can have been empty
 abbrev pub HasEnded : Stage → Stage → Type 0
 HasEnded old new = ((view new.pass).marks_taken ≡ (view old.pass).marks_taken + 1) ⊎ WasEmpty (view new.pass)
 

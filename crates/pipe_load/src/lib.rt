@@ -4,7 +4,7 @@
 //! true state (Ge et al., SIGMOD 2019, with the reading beside it), and reads the next round into their memory. A rule that
 //! each step on the queue keeps says that no window is lost, changed or taken twice.
 //! `pipe_load` has the contract of `window_load`, but that it returns isn't proved.
-//! It serves `csv_loader` alone.
+//! It serves `loader_reply` alone.
 #![tactic(auto)]
 
 mod answer;

@@ -1,11 +1,12 @@
 // What one worker makes of a round.
 ghost use Rattle.std.specs.Prelude.{◌≡◌, ℕ, List, slice_range, IfOk, IfSome, IsNone};
 ghost use Rattle.std.specs.List.{concat};
-ghost use Rattle.text_pieces.specs.Blocks.{HasNone, HasWork, IsIdle, IsRound};
+ghost use Rattle.text_pieces.specs.Blocks.{HasNone, HasWork, IsDrawn, IsIdle, IsRound};
 
 use crate::block::Block;
 use crate::round::Round;
 use crate::row_lines::RowLines;
+use crate::spare::Spare;
 use csv_source::NoMemory;
 use std::alloc::Global;
 
@@ -15,11 +16,13 @@ pub(crate) struct Desk {
     alloc: Global,
     blocks: Vec<Block>,
     used: usize,
+    // The caller's desk alone has room in it.
+    pub(crate) spare: Spare,
 }
 
 impl Desk {
     /// A desk of so many blocks.
-    pub(crate) fn new(alloc: Global, count: usize) -> Result<Desk, NoMemory>
+    pub(crate) fn new(alloc: Global, count: usize, spare: Spare) -> Result<Desk, NoMemory>
         ensures { IfOk result IsIdle }
     {
         let mut blocks = Vec::new(alloc);
@@ -30,13 +33,15 @@ impl Desk {
             alloc,
             blocks,
             used: 0,
+            spare,
         })
     }
 
     /// Draws rows of a round and makes their lines, until none are left or all blocks are used.
     pub(crate) fn work<T: RowLines>(&mut self, rows: &T, round: &Round)
         requires { IsRound (T.lines rows.now) round.now }
-        ensures { HasWork (T.lines rows.now) self.new }
+        ensures lines { HasWork (T.lines rows.now) self.new }
+        ensures drawn { IsDrawn round.now self.new }
     {
         self.used = 0;
         while self.used < self.blocks.len() {

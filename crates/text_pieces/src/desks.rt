@@ -1,5 +1,5 @@
 // What all workers make of a round.
-ghost use Rattle.std.specs.Prelude.{◌≡◌, ◌≤◌, ℕ, List, length, slice_range, IfOk, IfSome, IsNone};
+ghost use Rattle.std.specs.Prelude.{◌≡◌, ◌<◌, ◌+◌, ℕ, List, min, slice_range, IfOk, IfSome, IsNone};
 ghost use Rattle.std.specs.List.{concat};
 ghost use Rattle.text_pieces.specs.Blocks.{AreDesks, AreIdle, HaveNone, IsRound};
 ghost use Rattle.text_pieces.specs.Writes.{Writes};
@@ -7,6 +7,7 @@ ghost use Rattle.text_pieces.specs.Writes.{Writes};
 use crate::desk::Desk;
 use crate::round::Round;
 use crate::row_lines::RowLines;
+use crate::spare::Spare;
 use crate::writing::write_text;
 use csv_source::{Failed, NoMemory, Sink};
 use std::alloc::Global;
@@ -26,11 +27,11 @@ impl Desks {
     {
         let mut others = Vec::new(alloc);
         for _ in 1..count {
-            others.push(Desk::new(alloc, blocks)?)?;
+            others.push(Desk::new(alloc, blocks, Spare::none(alloc))?)?;
         }
         Ok(Desks {
             round: Round::new(0, 0, 1),
-            own: Desk::new(alloc, blocks)?,
+            own: Desk::new(alloc, blocks, Spare::with_room(alloc)?)?,
             others,
         })
     }
@@ -57,36 +58,41 @@ impl Desks {
         None
     }
 
-    /// Writes the lines of the rows from `from` to before `to`: those that were made, or else straight from the rows.
-    fn write_rows<T: RowLines, K: Sink>(
+    /// Writes the lines of the block that begins with the row `from`: those that were made, or else through the spare buffer.
+    fn write_block<T: RowLines, K: Sink>(
         &self,
         rows: &T,
         from: usize,
-        to: usize,
+        spare: &mut Spare,
         sink: &mut K,
     ) -> Result<(), Failed>
         requires desks { AreDesks (T.lines rows.now) self.now }
-        requires ordered { from ≤ to }
-        requires within { to ≤ length (T.lines rows.now) }
-        ensures { Writes (K.taken sink.old) (K.taken sink.new) (K.faults sink.old) (K.faults sink.new) result (concat (slice_range (T.lines rows.now) from to)) }
+        requires round { IsRound (T.lines rows.now) self.now.round }
+        requires within { from < self.now.round.to }
+        ensures { Writes (K.taken sink.old) (K.taken sink.new) (K.faults sink.old) (K.faults sink.new) result (concat (slice_range (T.lines rows.now) from (min (from + self.now.round.at_once) self.now.round.to))) }
     {
+        let to = self.round.end(from);
         match self.lines(from, to) {
             Some(text) => write_text(sink, text),
-            None => rows.write(from, to, sink),
+            None => spare.write(rows, from, to, sink),
         }
     }
 
     /// Writes the lines of the round's rows.
-    pub(crate) fn write<T: RowLines, K: Sink>(&self, rows: &T, sink: &mut K) -> Result<(), Failed>
+    pub(crate) fn write<T: RowLines, K: Sink>(
+        &self,
+        rows: &T,
+        spare: &mut Spare,
+        sink: &mut K,
+    ) -> Result<(), Failed>
         requires desks { AreDesks (T.lines rows.now) self.now }
         requires round { IsRound (T.lines rows.now) self.now.round }
         ensures { Writes (K.taken sink.old) (K.taken sink.new) (K.faults sink.old) (K.faults sink.new) result (concat (slice_range (T.lines rows.now) self.now.round.from self.now.round.to)) }
     {
         let mut at = self.round.from;
         while at < self.round.to {
-            let end = self.round.end(at);
-            self.write_rows(rows, at, end, sink)?;
-            at = end;
+            self.write_block(rows, at, spare, sink)?;
+            at = self.round.end(at);
         }
         Ok(())
     }

@@ -14,6 +14,7 @@ mod block;
 mod desk;
 mod desks;
 mod draft;
+mod fit;
 mod pieces;
 mod room;
 mod round;
@@ -21,6 +22,7 @@ mod rounds;
 mod row_lines;
 mod rowed;
 mod runs;
+mod spare;
 mod workers;
 mod writing;
 

@@ -1,5 +1,6 @@
 // Rows that workers draw.
-ghost use Rattle.std.specs.Prelude.{◌≡◌, ◌<◌, ◌≤◌, ◌↔◌, IfSome, IsTrue};
+ghost use Rattle.std.specs.Prelude.{◌≡◌, ◌<◌, ◌+◌, min, IfSome};
+ghost use Rattle.text_pieces.specs.Blocks.{IsCut};
 
 use std::sync::atomic::{AtomicU64, Ordering};
 
@@ -28,27 +29,16 @@ impl Round {
         }
     }
 
-    /// Whether it has no rows.
-    pub(crate) fn is_empty(&self) -> bool
-        ensures { IsTrue result ↔ self.now.to ≤ self.now.from }
-    {
-        self.from >= self.to
-    }
-
     /// The end of the rows from `from` on that are made at once.
     pub(crate) fn end(&self, from: usize) -> usize
-        requires some { 0 < self.now.at_once }
-        requires within { from < self.now.to }
-        ensures some { from < result }
-        ensures within { result ≤ self.now.to }
+        ensures { result ≡ min (from + self.now.at_once) self.now.to }
     {
         from.saturating_add(self.at_once).min(self.to)
     }
 
     /// Draws rows, as the first of them and their end: none once all are drawn.
     pub(crate) fn draw(&self) -> Option<(usize, usize)>
-        requires some { 0 < self.now.at_once }
-        ensures { IfSome result (λ rows. (rows.0 < rows.1) × (rows.1 ≤ self.now.to)) }
+        ensures { IfSome result (λ rows. IsCut self.now rows.0 rows.1) }
     {
         let number = self.drawn.fetch_add(1, Ordering::SeqCst) as usize;
         let from = self

@@ -5,6 +5,7 @@ ghost use Rattle.text_pieces.specs.Blocks.{IsReady};
 ghost use Rattle.text_pieces.specs.Writes.{Writes};
 
 use crate::desks::Desks;
+use crate::fit::{BLOCK_ROWS, fit};
 use crate::round::Round;
 use crate::row_lines::RowLines;
 use crate::workers::Workers;
@@ -15,9 +16,6 @@ use std::thread::Threads;
 /// About so many bytes of lines a block has: with less, the draws and the writes would show, and with more, the last worker of a
 /// round would be waited for longer.
 const BLOCK_BYTES: usize = 1 << 20;
-
-/// At most so many rows a block has, however short their lines: those of the rows behind may be longer.
-const BLOCK_ROWS: usize = 65_536;
 
 /// The blocks of the first round are so many times smaller, so that the writing begins soon.
 const FIRST: usize = 4;
@@ -45,20 +43,6 @@ fn at_once<T: RowLines>(rows: &T, workers: usize) -> usize
     let most = (BLOCK_BYTES / rows.room(1).max(1)).min(BLOCK_ROWS);
     let few = (most / FIRST).max(1);
     rows.count().div_ceil(workers.max(1)).clamp(1, few)
-}
-
-/// How many rows are made at once in the next round: more where all blocks were short, and fewer where one was long.
-fn fit(at_once: usize, longest: usize) -> usize
-    requires { 0 < at_once }
-    ensures { 0 < result }
-{
-    if longest > BLOCK_BYTES {
-        return (at_once / 2).max(1);
-    }
-    if longest > BLOCK_BYTES / 2 {
-        return at_once;
-    }
-    at_once.saturating_mul(2).min(BLOCK_ROWS)
 }
 
 impl Rounds {
@@ -95,7 +79,22 @@ impl Rounds {
         Round::new(from, from.saturating_add(rows).min(count), self.at_once)
     }
 
-    /// Writes the lines of all rows from `from` on. The first pass writes none: it makes the first round.
+    /// How many rows are made at once in the round behind the next one, by what the lines of the ready one take. Where some
+    /// couldn't be made, not fewer than the spare buffer takes: rounds of few rows would be many.
+    fn next_at_once(&self) -> usize
+        requires { 0 < self.now.at_once }
+        ensures { 0 < result }
+    {
+        let longest = self.ready.longest();
+        let fitting = fit(self.at_once, longest, BLOCK_BYTES);
+        if longest < usize::MAX {
+            return fitting;
+        }
+        fitting.max(self.ready.own.spare.rows().min(self.at_once))
+    }
+
+    /// Writes the lines of all rows from `from` on. Each pass makes the next round beside the writing of the ready one, of which
+    /// the first is one of no rows.
     pub(crate) fn write_from<R: Threads + Sync, T: RowLines + Sync, K: Sink>(
         &mut self,
         rt: &R,
@@ -109,12 +108,12 @@ impl Rounds {
     {
         let count = rows.count();
         self.ready.round = Round::new(from, from, 1);
-        while self.ready.round.from < count {
+        while self.ready.round.to < count {
             self.making.round = self.next_round(count);
             self.making.make_beside(rt, rows, &self.ready, sink)?;
             mem::swap(&mut self.ready, &mut self.making);
-            self.at_once = fit(self.at_once, self.ready.longest());
+            self.at_once = self.next_at_once();
         }
-        Ok(())
+        self.ready.write(rows, &mut self.making.own.spare, sink)
     }
 }

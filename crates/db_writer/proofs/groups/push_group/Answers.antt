@@ -13,10 +13,10 @@ returns-then-holds_at c =
     let group = c.args.group in
     let old = c.args.pages.now in
     let leaves = c.in-Some.leaves in
-    let written = subst (λ o. IfSome o (λ (l : Filled). l ≡ filled l.base (group.from + 1) (records_of (slice_range rows group.from group.to)))) c.in-Some.is c.requires.group.leaves in
+    let written = subst (λ o. IfSome o (λ (l : Filled). l ≡ filled group.base (group.from + 1) (records_of (slice_range rows group.from group.to)))) c.in-Some.is c.requires.group.leaves in
     let holds = ap (λ n. holds_at n (closed leaves)) (sym c.next_place-place.ensures) ∙ sym c.holds_at.ensures ∙ c.if-holds_at.true in record {
       ok = on_ok_weaker c.push.result
-          (group-joined c.groups_join.ensures rows old.base group.from group.to c.requires.group.ordered c.requires.group.within old c.push.new.self leaves leaves.base c.requires.block c.requires.before written holds)
+          (group-joined c.groups_join.ensures rows old.base group.from group.to c.requires.group.ordered c.requires.group.within old c.push.new.self leaves group.base c.requires.block c.requires.before written holds)
           c.push.ensures.ok;
     }
 

@@ -1,4 +1,4 @@
-use Rattle.std.proofs.Common.{◌+◌, ◌<◌, ◌-◌, drop}
+use Rattle.std.proofs.Common.{◌<◌, ◌-◌, drop}
 use Rattle.std.specs.List.{concat}
 use Rattle.text_pieces.specs.Blocks.{AreDesks, IsRound}
 use Rattle.text_pieces.specs.Writes.{HasWritten}
@@ -12,11 +12,10 @@ invariant-loop-self g l =
       some : 0 < l.self.at_once;
       round : IsRound lines l.self.ready.round;
       ready : AreDesks lines l.self.ready;
-      making : AreDesks lines l.self.making;
       text : HasWritten (g.K.Sink.taken l.fn.sink) (g.K.Sink.taken l.sink) (g.K.Sink.faults l.fn.sink) (g.K.Sink.faults l.sink)
           (concat (drop l.fn.from lines)) (concat (drop l.self.ready.round.from lines));
     }
 
 -- the last round ends at the last row
 abbrev pub decreases-loop-self : goal.decreases-loop-self
-decreases-loop-self g l = (l.count - l.self.ready.round.from) + (l.count - l.self.ready.round.to)
+decreases-loop-self g l = l.count - l.self.ready.round.to
