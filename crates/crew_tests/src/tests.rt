@@ -1,6 +1,6 @@
 mod contexts;
 mod load_crew_groups;
-mod pipe_load_data;
 mod pipe_load_stages;
 mod pipe_load_windows;
-mod window_load_groups;
+mod window_load_data;
+mod window_load_windows;

@@ -1,7 +1,7 @@
-//! Tests of `db_writer`, apart from it so that it is proved once: a small database byte for byte, and one that several
-//! workers write. The expected bytes are those of a file that `sqlite3` reads: `integrity_check` is `ok`, and the rows are
-//! those that were written. These functions promise nothing to callers, so the edits that must be refused stand in
-//! `db_writer`.
+//! Tests of `db_pages` and `db_writer`, apart from them so that each is proved once. Databases are made and compared by their
+//! digests with those of another program, in which sqlite3 found the same rows and nothing to complain of:
+//! `bench/database_images.py` makes, asks and prints them. That sqlite3 reads what the loader writes is seen behind the gate.
+//! These functions promise nothing to callers, so the edits that must be refused stand in the crates that they test.
 #![tactic(auto)]
 
 #[cfg(test)]

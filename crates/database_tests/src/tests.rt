@@ -1,3 +1,3 @@
-mod small;
-mod tables;
-mod threads;
+mod images;
+mod rows;
+mod written;

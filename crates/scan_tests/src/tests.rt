@@ -1,16 +1,10 @@
 mod byte_classes_searches;
 mod chain_words_links;
 mod claim_board_orders;
+mod contexts;
 mod dialects;
 mod quote_automaton_states;
 mod range_guess_cuts;
-mod range_scan_numbers;
-mod range_scan_one_look;
 mod range_scan_parts;
-mod range_scan_ranges;
-mod reject_book_books;
-mod reject_book_steps;
 mod reject_book_verdicts;
 mod row_fields_rows;
-mod schemas;
-mod shown;

@@ -1,11 +1,4 @@
-mod csv_sniffer_explained;
-mod csv_sniffer_inputs;
-mod csv_sniffer_places;
-mod csv_sniffer_rows;
 mod dialect_rank_candidates;
-mod dialect_rank_outranking;
-mod load_options_commands;
-mod load_options_lists;
-mod load_options_refusals;
+mod load_options_limits;
 mod load_options_words;
 mod words;

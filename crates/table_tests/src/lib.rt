@@ -1,6 +1,6 @@
-//! Tests of the crates of sources, values, tables and texts, apart from them so that each is proved once: `csv_source`,
-//! `text_pieces`, `value_types`, `column_store`, `column_taps`, `csv_writer`, `file_list` and `report_text`. Each module
-//! tests one crate by its public items: rows of data with what is wanted, taken from outside, and texts of small tables.
+//! Tests of the crates of sources, tables and texts, apart from them so that each is proved once: `csv_source`, `column_store`,
+//! `column_taps`, `file_list` and `text_pieces`. Each module tests one crate by its public items, where no clause says what is
+//! wanted or no run of the loader comes; what values, tables and reports look like is shown by the lines of `loader_cases`.
 //! These functions promise nothing to callers, so the edits that must be refused stand in the crates that they test.
 #![tactic(auto)]
 

@@ -1,19 +1,25 @@
-//! Stages that scan while the caller still reads, and stages that begin late.
+//! Stages that begin late, behind a queue that is full.
 use super::contexts::{commas, context_of, repeated};
-use super::pipe_load_data::told_of;
-use csv_source::{Failed, Gate, MemorySource, Source};
+use csv_source::{Failed, Gate, MemorySource, NoMemory, Source};
 use pipe_load::pipe_load;
 use std::alloc::Global;
 use std::process::Abort;
 use std::sync::Wait;
 use std::sync::atomic::{AtomicU64, Ordering};
-use std::test::Fail;
 use std::thread::Threads;
 use value_types::ColumnType;
 use window_load::{DataLoader, InputWindow, LoadStop, WindowRead};
 
 /// How often one looks for the other before it gives up.
 const TURNS: u64 = 1_000_000_000;
+
+/// How many rows of 8 bytes are read, and how many bytes before a scan goes on.
+const ROWS: usize = 20_000;
+
+const AHEAD: u64 = 130_000;
+
+/// Windows have 176 bytes with these ranges, and the queue holds 64 of them.
+const RANGE_SIZE: u64 = 16;
 
 /// Whether a scan has begun, whether the reading is far ahead, and how often one gave up.
 #[derive(Drop)]
@@ -39,6 +45,7 @@ impl Flags {
     }
 }
 
+/// Holds the scans until the reading is far ahead.
 #[derive(Drop)]
 struct Meeting<'a> {
     flags: &'a Flags,
@@ -52,12 +59,11 @@ impl Gate for Meeting<'_> {
     }
 }
 
-/// After so many bytes it goes on only when a scan has begun.
+/// Far ahead it reads on only when a scan has begun.
 #[derive(Drop)]
 struct Waiting<'a> {
     source: MemorySource,
     given: u64,
-    ahead: u64,
     flags: &'a Flags,
 }
 
@@ -73,7 +79,7 @@ impl Source for Waiting<'_> {
     }
 
     fn read(&mut self, buf: &mut [u8]) -> Result<usize, Failed> {
-        if self.given >= self.ahead {
+        if self.given >= AHEAD {
             self.flags.meet(&self.flags.ahead, &self.flags.scanning);
         }
         let count = self.source.read(buf)?;
@@ -82,67 +88,53 @@ impl Source for Waiting<'_> {
     }
 }
 
-/// What two stages read of a source.
-fn load_in<R: Threads + Wait + Sync + Abort, S: Source + Send, G: Gate>(
+/// A source that holds the rows, and gives them in pieces of 65,536 bytes.
+fn pieces_of(alloc: Global) -> Result<MemorySource, NoMemory> {
+    let mut source = MemorySource::new(alloc);
+    source.put("f.csv", &repeated(alloc, b"12,text\n", ROWS)?)?;
+    source.piece(65_536);
+    Ok(source)
+}
+
+/// What two stages read.
+fn load<R: Threads + Wait + Sync + Abort>(
     rt: &R,
     alloc: Global,
-    range_size: u64,
-    source: &mut S,
-    gate: &G,
+    flags: &Flags,
 ) -> Result<WindowRead, LoadStop> {
-    assert!(rt; 0 < range_size && range_size <= 1_000_000);
     let context = context_of(alloc, commas(rt), ColumnType::Bigint, 30, false)?;
+    let mut source = Waiting {
+        source: pieces_of(alloc)?,
+        given: 0,
+        flags,
+    };
+    assert!(rt; source.open("f.csv").is_ok());
     let loader = DataLoader {
         rt,
         alloc,
         context: &context,
-        range_size,
+        range_size: RANGE_SIZE,
         stop: false,
         threads: 2,
-        gate,
+        gate: &Meeting { flags },
     };
     let head = InputWindow::new(alloc, 1_073_741_824);
-    pipe_load(&loader, head, 0, source)
+    pipe_load(&loader, head, 0, &mut source)
 }
 
-/// Reads so many rows of 8 bytes, where no scan goes on before so many bytes are read, and these are the last that are read
-/// before a scan has begun.
-fn check_meeting<R: Threads + Wait + Sync + Abort>(
-    rt: &R,
-    alloc: Global,
-    rows: usize,
-    range_size: u64,
-    ahead: u64,
-) -> Result<(), Fail> {
+/// Whether all rows are read.
+fn has_all_rows(read: &Result<WindowRead, LoadStop>) -> bool {
+    matches!(read, Ok(WindowRead::All(read)) if read.table.rows() == ROWS)
+}
+
+// The queue is full while the stages wait for more to be read.
+#[test]
+fn windows_wait_for_stages_that_begin_late(rt: HostRuntime) {
     let flags = Flags {
         scanning: AtomicU64::new(0),
         ahead: AtomicU64::new(0),
         given_up: AtomicU64::new(0),
     };
-    let mut source = MemorySource::new(alloc);
-    source.put("f.csv", &repeated(alloc, b"12,text\n", rows)?)?;
-    source.piece(65_536);
-    assert!(rt; source.open("f.csv").is_ok());
-    let mut source = Waiting {
-        source,
-        given: 0,
-        ahead,
-        flags: &flags,
-    };
-    let gate = Meeting { flags: &flags };
-    let read = load_in(rt, alloc, range_size, &mut source, &gate);
-    assert_eq!(rt; told_of(&read)[1], rows as u64);
-    assert_eq!(rt; flags.given_up.load(Ordering::SeqCst), 0);
-    Ok(())
-}
-
-#[test]
-fn stages_scan_beside_the_reading(rt: HostRuntime) -> Result<(), Fail> {
-    check_meeting(&rt, rt.alloc(), 250_000, 1_024, 1_000_000)
-}
-
-// Windows of 176 bytes, of which the queue holds 64 while the stages wait for more to be read.
-#[test]
-fn windows_wait_for_stages_that_begin_late(rt: HostRuntime) -> Result<(), Fail> {
-    check_meeting(&rt, rt.alloc(), 20_000, 16, 130_000)
+    assert!(rt; has_all_rows(&load(&rt, rt.alloc(), &flags)));
+    assert!(rt; flags.given_up.load(Ordering::SeqCst) == 0);
 }

@@ -1,6 +1,6 @@
 //! How often a load claims and scans each range, whatever the number of workers.
-use crate::{Cut, OPT, repeated, status_of, words_of};
-use csv_source::{Gate, MemorySink, MemorySource, NoMemory};
+use csv_source::{Gate, MemorySink, NoMemory};
+use loader_runs::{Cut, File, ROOMY, Run, repeated, status_of, words_of};
 use std::alloc::Global;
 use std::sync::Wait;
 use std::sync::atomic::{AtomicU64, Ordering};
@@ -88,28 +88,38 @@ struct CountedRun {
     gate: Counting,
 }
 
-/// What the words come to in such ranges, with `input` as the file `f.csv`.
+impl CountedRun {
+    /// Whether a report that ends so was written.
+    fn ends(&self, text: &[u8]) -> bool {
+        let taken = self.sink.taken();
+        self.status == 0 && taken.starts_with(FOUND) && taken.ends_with(text)
+    }
+}
+
+/// What the words come to in such ranges.
 fn counted_run<R: Threads + Wait + Sync>(
     rt: &R,
     alloc: Global,
     words: &[&str],
-    input: &[u8],
+    files: &[File<'_>],
     cut: Cut,
 ) -> Result<CountedRun, NoMemory> {
-    let Cut {
-        range_size,
-        threads,
-    } = cut;
+    let run = Run {
+        words,
+        files,
+        outside: ROOMY,
+    };
     let mut words = words_of(alloc, words)?;
-    words.push(format!(in alloc; "range_size={range_size}")?)?;
-    words.push(format!(in alloc; "threads={threads}")?)?;
-    let mut source = MemorySource::new(alloc);
-    source.put("f.csv", input)?;
-    let mut sink = MemorySink::with_room(alloc, 1000)?;
+    words.append(&mut cut.words(alloc)?)?;
+    let mut source = run.source(alloc)?;
+    let mut sink = run.sink(alloc)?;
     let gate = Counting::new();
     let status = status_of(rt, alloc, &words, &mut source, &mut sink, &gate)?;
     Ok(CountedRun { status, sink, gate })
 }
+
+const FOUND: &[u8] = b"options|delim=,|quote=\"|escape=\"|newline=\\n|skip=0|header=false\n\
+column|0|VARCHAR|column0\n";
 
 const LOAD_PLAIN: &[&str] = &[
     "load",
@@ -121,34 +131,38 @@ const LOAD_PLAIN: &[&str] = &[
     "stats=true",
 ];
 
-const TWO_ROWS: &[u8] = b"column|0|VARCHAR|column0\n\
-column|1|VARCHAR|column1\n\
+const TWO_ROWS: &[u8] = b"column|1|VARCHAR|column1\n\
 row|x|5\"y\n\
 row|1|2\n\
 rows|2\n\
 errors|0|0\n\
 stats|ranges=5|rescans=2|scanned=14\n";
 
+/// Whether on so many threads five ranges are claimed once each. Each is scanned in its guess, range 1 once more in
+/// FieldStart and range 2 in Plain.
+fn five_are_claimed_once<R: Threads + Wait + Sync>(
+    rt: &R,
+    alloc: Global,
+    threads: usize,
+) -> Result<bool, NoMemory> {
+    let cut = Cut {
+        range_size: 2,
+        threads,
+    };
+    let run = counted_run(rt, alloc, LOAD_PLAIN, &[("f.csv", b"x,5\"y\n1,2\n")], cut)?;
+    let seen = [(1, 0x1), (1, 0x42), (1, 0x63), (1, 0x1), (1, 0x2)];
+    Ok(run.ends(TWO_ROWS) && run.gate.seen() == seen && told_of(&run.gate.all) == (5, 7))
+}
+
 #[test]
 fn each_range_is_claimed_once_and_scanned_again_where_it_differs(
     rt: HostRuntime,
 ) -> Result<(), Fail> {
     for threads in [1, 2, 4] {
-        let range_size = 2;
-        let cut = Cut {
-            range_size,
-            threads,
-        };
-        let run = counted_run(&rt, rt.alloc(), LOAD_PLAIN, b"x,5\"y\n1,2\n", cut)?;
-        assert_eq!(rt; run.status, 0);
-        assert!(rt; run.sink.taken().starts_with(OPT));
-        assert!(rt; run.sink.taken().ends_with(TWO_ROWS));
-        // Each is scanned in its guess, range 1 once more in FieldStart and range 2 in Plain.
-        assert_eq!(rt;
-            run.gate.seen(),
-            [(1, 0x1), (1, 0x42), (1, 0x63), (1, 0x1), (1, 0x2)]
+        assert!(rt;
+            five_are_claimed_once(&rt, rt.alloc(), threads)?,
+            "{threads}"
         );
-        assert_eq!(rt; told_of(&run.gate.all), (5, 7));
     }
     Ok(())
 }
@@ -176,13 +190,28 @@ const SUM_LONG_ROWS: &[&str] = &[
     "stats=true",
 ];
 
-const LONG_ROWS_SUMMED: &[u8] = b"column|0|VARCHAR|column0\n\
-rows|89\n\
+const LONG_ROWS_SUMMED: &[u8] = b"rows|89\n\
 errors|0|0\n\
 tap|count|89|89\n\
 tap|width|0|200000\n\
 tap|distinct|2\n\
 stats|ranges=99|rescans=0|scanned=4900003\n";
+
+/// Whether on so many threads the ranges of the long rows are claimed once each, with so many scans.
+fn long_rows_are_scanned<R: Threads + Wait + Sync>(
+    rt: &R,
+    alloc: Global,
+    input: &[u8],
+    threads: usize,
+    scans: u64,
+) -> Result<bool, NoMemory> {
+    let cut = Cut {
+        range_size: 50_000,
+        threads,
+    };
+    let run = counted_run(rt, alloc, SUM_LONG_ROWS, &[("f.csv", input)], cut)?;
+    Ok(run.ends(LONG_ROWS_SUMMED) && told_of(&run.gate.all) == (99, scans))
+}
 
 // One worker holds some 65,536 bytes behind a range at first. So the first range of each long row is scanned once more,
 // when so much is held as a row may have.
@@ -192,16 +221,10 @@ fn a_range_whose_row_goes_on_behind_what_is_held_is_scanned_once_more(
 ) -> Result<(), Fail> {
     let input = long_rows(rt.alloc())?;
     for (threads, scans) in [(1, 102), (2, 99), (4, 99)] {
-        let range_size = 50_000;
-        let cut = Cut {
-            range_size,
-            threads,
-        };
-        let run = counted_run(&rt, rt.alloc(), SUM_LONG_ROWS, &input, cut)?;
-        assert_eq!(rt; run.status, 0);
-        assert!(rt; run.sink.taken().starts_with(OPT));
-        assert!(rt; run.sink.taken().ends_with(LONG_ROWS_SUMMED));
-        assert_eq!(rt; told_of(&run.gate.all), (99, scans), "{threads}");
+        assert!(rt;
+            long_rows_are_scanned(&rt, rt.alloc(), &input, threads, scans)?,
+            "{threads}"
+        );
     }
     Ok(())
 }

@@ -1,6 +1,6 @@
 //! Ranges that are shared by workers.
-use crate::{IN_PIECES, OPT, Outside, Reply, repeated, reply_to, status_of, words_of};
 use csv_source::{Gate, MemorySink, MemorySource, NoMemory};
+use loader_runs::{Cut, ROOMY, Run, repeated, status_of, words_of};
 use std::alloc::Global;
 use std::sync::Wait;
 use std::sync::atomic::{AtomicBool, AtomicU64, Ordering};
@@ -79,63 +79,84 @@ fn another_worker_claims_while_the_first_range_is_scanned(rt: HostRuntime) -> Re
 /// Quotes within plain fields, and delimiters and line ends within quotes: many guesses are wrong, wherever ranges begin.
 const MISLEADING: &[u8] = b"a,5\"bb\n\"c\n,d\",ee\n";
 
-/// The text of forty times those rows.
+const MISLEADING_FOUND: &[u8] =
+    b"options|delim=,|quote=\"|escape=\"|newline=\\n|skip=0|header=false\n\
+column|0|VARCHAR|column0\n\
+column|1|VARCHAR|column1\n";
+
+/// How often those rows stand in an input of 140,012 bytes: several groups of ranges, which workers share.
+const TIMES: usize = 8_236;
+
+/// The text of so many times those rows.
 fn misleading_text(alloc: Global) -> Result<Vec<u8>, NoMemory> {
-    let mut text = Vec::new(alloc);
-    text.extend_from_slice(OPT)?;
-    text.extend_from_slice(b"column|0|VARCHAR|column0\ncolumn|1|VARCHAR|column1\n")?;
-    let rows = repeated(alloc, b"row|a|5\"bb\nrow|c\\n,d|ee\n", 40)?;
-    text.extend_from_slice(&rows)?;
-    text.extend_from_slice(b"rows|80\nerrors|0|0\n")?;
+    let mut text = repeated(alloc, MISLEADING_FOUND, 1)?;
+    text.extend_from_slice(&repeated(alloc, b"row|a|5\"bb\nrow|c\\n,d|ee\n", TIMES)?)?;
+    text.extend_from_slice(b"rows|16472\nerrors|0|0\n")?;
     Ok(text)
 }
 
-/// The load of forty times those rows by eight threads.
-fn misled<R: Threads + Wait + Sync>(
+const LOAD: &[&str] = &[
+    "load",
+    "f.csv",
+    "delim=,",
+    "quote=\"",
+    "escape=\"",
+    "header=false",
+];
+
+/// Whether the load of an input by eight threads, in such ranges, writes this text.
+fn is_loaded<R: Threads + Wait + Sync>(
     rt: &R,
     alloc: Global,
+    input: &[u8],
     range_size: usize,
-    stats: bool,
-) -> Result<Reply, NoMemory> {
-    let input = repeated(alloc, MISLEADING, 40)?;
-    let words: &[&str] = &[
-        "load",
-        "f.csv",
-        "delim=,",
-        "quote=\"",
-        "escape=\"",
-        "header=false",
-        "threads=8",
-    ];
-    let mut words = words_of(alloc, words)?;
-    words.push(format!(in alloc; "range_size={range_size}")?)?;
-    words.push(format!(in alloc; "stats={stats}")?)?;
-    let outside = Outside {
-        room: 5000,
-        ..IN_PIECES
+    text: &[u8],
+) -> Result<bool, NoMemory> {
+    let run = Run {
+        words: LOAD,
+        files: &[("f.csv", input)],
+        outside: ROOMY,
     };
-    reply_to(rt, alloc, &words, &input, outside)
+    let cut = Cut {
+        range_size,
+        threads: 8,
+    };
+    Ok(run.reply_in(rt, alloc, cut)?.is(0, text))
 }
 
 #[test]
 fn two_hundred_runs_over_wrong_guesses_have_one_text(rt: HostRuntime) -> Result<(), Fail> {
+    let input = repeated(rt.alloc(), MISLEADING, TIMES)?;
     let text = misleading_text(rt.alloc())?;
     for run in 0..200usize {
-        let reply = misled(&rt, rt.alloc(), 2 + run % 7, false)?;
-        assert_eq!(rt; reply.status(), 0, "run {run}");
-        assert!(rt; reply.text() == text.as_slice(), "run {run}");
+        let range_size = 1_024 + 5 * (run % 7);
+        assert!(rt;
+            is_loaded(&rt, rt.alloc(), &input, range_size, &text)?,
+            "run {run}"
+        );
     }
     Ok(())
 }
 
 #[test]
 fn a_third_of_the_guesses_is_wrong(rt: HostRuntime) -> Result<(), Fail> {
-    let reply = misled(&rt, rt.alloc(), 2, true)?;
-    assert_eq!(rt; reply.status(), 0);
-    assert!(rt;
-        reply
-            .text()
-            .ends_with(b"\nstats|ranges=340|rescans=117|scanned=914\n")
-    );
+    let input = repeated(rt.alloc(), MISLEADING, 40)?;
+    let run = Run {
+        words: &[
+            "load",
+            "f.csv",
+            "delim=,",
+            "quote=\"",
+            "escape=\"",
+            "header=false",
+            "threads=8",
+            "range_size=2",
+            "stats=true",
+        ],
+        files: &[("f.csv", &input)],
+        outside: ROOMY,
+    };
+    let stats = b"\nstats|ranges=340|rescans=117|scanned=914\n";
+    assert!(rt; run.ends(&rt, rt.alloc(), 0, stats)?);
     Ok(())
 }

@@ -1,82 +1,113 @@
-//! Calls of the outside that fail.
-use crate::{IN_PIECES, Outside, Reply, WHOLE, reply_to, words_of};
+//! Calls of the outside that fail, and a sink with little room.
 use csv_source::NoMemory;
+use loader_runs::{File, IN_PIECES, Outside, Run, WHOLE};
 use std::alloc::Global;
 use std::sync::Wait;
 use std::test::Fail;
 use std::thread::Threads;
 
-const PEOPLE: &[u8] = b"Pedro,31\nOogie Boogie, three\n";
+const PEOPLE: &[File<'static>] = &[("f.csv", b"Pedro,31\nOogie Boogie, three\n")];
+
+const LOAD_PEOPLE: &[&str] = &["load", "f.csv", "names=name,age", "types=VARCHAR,BIGINT"];
 
 const PEOPLE_FOUND: &[u8] = b"options|delim=,|quote=\"|escape=\"|newline=\\n|skip=0|header=false\n\
 column|0|VARCHAR|name\n\
 column|1|BIGINT|age\n\
 error|0|0|2|10|23|2|age|CAST|Oogie Boogie, three|Error when converting column \"age\". Could not convert string \" three\" to 'BIGINT'\n";
 
-const LOAD_PEOPLE: &[&str] = &["load", "f.csv", "names=name,age", "types=VARCHAR,BIGINT"];
-
 const READ_FAULT: &[u8] = b"fault|read\n";
 
+/// The failing call of the source, that of the sink, the room of the sink, and the status and the text they come to.
+type Fault = (Option<u64>, Option<u64>, usize, u8, &'static [u8]);
+
 // The calls of the source: 1 opens, 2 to 4 give ten bytes each but the last, and 5 finds the end. Each write takes eight bytes.
+const FAULTS: [Fault; 9] = [
+    (Some(1), None, 1000, 2, READ_FAULT),
+    (Some(3), None, 1000, 2, READ_FAULT),
+    (Some(5), None, 1000, 2, READ_FAULT),
+    (Some(6), None, 1000, 3, PEOPLE_FOUND),
+    (None, Some(1), 1000, 5, b""),
+    (None, Some(3), 1000, 5, b"options|delim=,|"),
+    (None, None, 7, 5, b"options"),
+    (Some(1), None, 7, 5, b"fault|r"),
+    // A failing write comes before a failing read.
+    (Some(1), Some(1), 1000, 5, b""),
+];
+
 #[test]
 fn faults_of_the_outside_have_their_replies(rt: HostRuntime) -> Result<(), Fail> {
-    let words = words_of(rt.alloc(), LOAD_PEOPLE)?;
-    let cases: [(Option<u64>, Option<u64>, usize, u8, &[u8]); 8] = [
-        (Some(1), None, 1000, 2, READ_FAULT),
-        (Some(3), None, 1000, 2, READ_FAULT),
-        (Some(5), None, 1000, 2, READ_FAULT),
-        (Some(6), None, 1000, 3, PEOPLE_FOUND),
-        (None, Some(1), 1000, 5, b""),
-        (None, Some(3), 1000, 5, b"options|delim=,|"),
-        (None, None, 7, 5, b"options"),
-        (Some(1), None, 7, 5, b"fault|r"),
-    ];
-    for (failing_source_call, failing_sink_call, room, status, text) in cases {
-        let outside = Outside {
-            failing_source_call,
-            failing_sink_call,
-            room,
-            ..IN_PIECES
+    for (failing_source_call, failing_sink_call, room, status, text) in FAULTS {
+        let run = Run {
+            words: LOAD_PEOPLE,
+            files: PEOPLE,
+            outside: Outside {
+                failing_source_call,
+                failing_sink_call,
+                room,
+                ..IN_PIECES
+            },
         };
-        let reply = reply_to(&rt, rt.alloc(), &words, PEOPLE, outside)?;
-        assert_eq!(rt; reply.status(), status);
-        assert_eq!(rt; reply.text(), text);
+        assert!(rt; run.comes_to(&rt, rt.alloc(), status, text)?);
     }
     Ok(())
 }
 
-const LOAD_NUMBERS: &[&str] = &["load", "f.csv", "types=BIGINT", "header=false"];
-
 // Call 1 opens the file, 2 and 3 give its two rows, of which the first is faulty.
 #[test]
 fn a_read_that_fails_behind_a_faulty_row_is_a_read_fault(rt: HostRuntime) -> Result<(), Fail> {
-    let words = words_of(rt.alloc(), LOAD_NUMBERS)?;
-    let outside = Outside {
-        source_piece: 2,
-        failing_source_call: Some(3),
-        ..WHOLE
+    let run = Run {
+        words: &["load", "f.csv", "types=BIGINT", "header=false"],
+        files: &[("f.csv", b"x\n1\n")],
+        outside: Outside {
+            source_piece: 2,
+            failing_source_call: Some(3),
+            ..WHOLE
+        },
     };
-    let reply = reply_to(&rt, rt.alloc(), &words, b"x\n1\n", outside)?;
-    assert_eq!(rt; reply.status(), 2);
-    assert_eq!(rt; reply.text(), READ_FAULT);
+    assert!(rt; run.comes_to(&rt, rt.alloc(), 2, READ_FAULT)?);
     Ok(())
 }
 
+/// The words of the stored run of `csvload`.
+const STORED_WORDS: &[&str] = &[
+    "load",
+    "f.csv",
+    "delim=,",
+    "quote=\"",
+    "escape=\"",
+    "header=false",
+    "all_varchar=true",
+];
+
+/// Its file.
+const STORED: &[File<'static>] = &[("f.csv", b"1,\"a \"\"b\"\", c\"\n2,d\n")];
+
 #[test]
 fn a_sink_with_little_room_takes_the_front_of_the_text(rt: HostRuntime) -> Result<(), Fail> {
-    let words = words_of(rt.alloc(), &["load", "f.csv"])?;
     let outside = Outside { room: 7, ..WHOLE };
-    let reply = reply_to(&rt, rt.alloc(), &words, b"", outside)?;
-    assert_eq!(rt; reply.status(), 5);
-    assert_eq!(rt; reply.text(), b"options".as_slice());
+    let stored = Run {
+        words: STORED_WORDS,
+        files: STORED,
+        outside,
+    };
+    assert!(rt; stored.comes_to(&rt, rt.alloc(), 5, b"options")?);
+    let empty = Run {
+        words: &["load", "f.csv"],
+        files: &[("f.csv", b"")],
+        outside,
+    };
+    assert!(rt; empty.comes_to(&rt, rt.alloc(), 5, b"options")?);
     Ok(())
 }
 
 /// An ordinary export.
-const EXPORT: &[u8] = b"id,name,joined\r\n\
+const EXPORT: &[File<'static>] = &[(
+    "f.csv",
+    b"id,name,joined\r\n\
 1,\"Ruiz, Ana\",2023-04-01\r\n\
 2,\"O'Neil \"\"Bo\"\"\",2023-04-02\r\n\
-3,Li,\r\n";
+3,Li,\r\n",
+)];
 
 const EXPORT_LOADED: &[u8] =
     b"options|delim=,|quote=\"|escape=\"|newline=\\r\\n|skip=0|header=true\n\
@@ -89,57 +120,83 @@ row|3|Li|\\N\n\
 rows|3\n\
 errors|0|0\n";
 
-/// The load of the export in pieces of 16 bytes, over calls that fail.
-fn loaded<R: Threads + Wait + Sync>(
+/// In pieces of 16 bytes.
+const IN_SIXTEENS: Outside = Outside {
+    source_piece: 16,
+    sink_piece: 16,
+    ..IN_PIECES
+};
+
+/// Whether the load of the export over such an outside comes to this.
+fn is_loaded<R: Threads + Wait + Sync>(
     rt: &R,
     alloc: Global,
-    failing_source_call: Option<u64>,
-    failing_sink_call: Option<u64>,
-) -> Result<Reply, NoMemory> {
-    let outside = Outside {
-        source_piece: 16,
-        failing_source_call,
-        sink_piece: 16,
-        failing_sink_call,
-        room: 1000,
+    outside: Outside,
+    status: u8,
+    text: &[u8],
+) -> Result<bool, NoMemory> {
+    let run = Run {
+        words: &["load", "f.csv"],
+        files: EXPORT,
+        outside,
     };
-    let words = words_of(alloc, &["load", "f.csv"])?;
-    reply_to(rt, alloc, &words, EXPORT, outside)
+    run.comes_to(rt, alloc, status, text)
 }
 
 // Call 1 opens the file, calls 2 to 6 give its 79 bytes, and call 7 finds the end.
 #[test]
 fn each_source_call_that_fails_is_a_read_fault(rt: HostRuntime) -> Result<(), Fail> {
-    for call in 1..8u64 {
-        let reply = loaded(&rt, rt.alloc(), Some(call), None)?;
-        assert_eq!(rt; reply.status(), 2, "call {call}");
-        assert_eq!(rt; reply.text(), READ_FAULT);
+    for call in 1..9u64 {
+        let outside = Outside {
+            failing_source_call: Some(call),
+            ..IN_SIXTEENS
+        };
+        let (status, text) = if call < 8 {
+            (2, READ_FAULT)
+        } else {
+            (0, EXPORT_LOADED)
+        };
+        assert!(rt;
+            is_loaded(&rt, rt.alloc(), outside, status, text)?,
+            "call {call}"
+        );
     }
-    let reply = loaded(&rt, rt.alloc(), Some(8), None)?;
-    assert_eq!(rt; reply.status(), 0);
-    assert_eq!(rt; reply.text(), EXPORT_LOADED);
     Ok(())
+}
+
+/// Whether the load of the export is cut to so many bytes where this write fails.
+fn is_cut<R: Threads + Wait + Sync>(
+    rt: &R,
+    alloc: Global,
+    write: u64,
+    length: usize,
+) -> Result<bool, NoMemory> {
+    let run = Run {
+        words: &["load", "f.csv"],
+        files: EXPORT,
+        outside: Outside {
+            failing_sink_call: Some(write),
+            ..IN_SIXTEENS
+        },
+    };
+    let reply = run.reply(rt, alloc)?;
+    let is_front = EXPORT_LOADED.starts_with(reply.text());
+    Ok(reply.status() == 5 && is_front && reply.text().len() == length)
 }
 
 #[test]
 fn each_write_that_fails_cuts_the_text(rt: HostRuntime) -> Result<(), Fail> {
     let writes = EXPORT_LOADED.len().div_ceil(16);
     for write in 0..writes {
-        let reply = loaded(&rt, rt.alloc(), None, Some(write as u64 + 1))?;
-        assert_eq!(rt; reply.status(), 5, "write {write}");
-        assert_eq!(rt; reply.text().len(), 16 * write);
-        assert!(rt; EXPORT_LOADED.starts_with(reply.text()));
+        assert!(rt;
+            is_cut(&rt, rt.alloc(), write as u64 + 1, 16 * write)?,
+            "write {write}"
+        );
     }
-    let reply = loaded(&rt, rt.alloc(), None, Some(writes as u64 + 1))?;
-    assert_eq!(rt; reply.status(), 0);
-    assert_eq!(rt; reply.text(), EXPORT_LOADED);
-    Ok(())
-}
-
-#[test]
-fn a_failing_write_comes_before_a_failing_read(rt: HostRuntime) -> Result<(), Fail> {
-    let reply = loaded(&rt, rt.alloc(), Some(1), Some(1))?;
-    assert_eq!(rt; reply.status(), 5);
-    assert!(rt; reply.text().is_empty());
+    let outside = Outside {
+        failing_sink_call: Some(writes as u64 + 1),
+        ..IN_SIXTEENS
+    };
+    assert!(rt; is_loaded(&rt, rt.alloc(), outside, 0, EXPORT_LOADED)?);
     Ok(())
 }

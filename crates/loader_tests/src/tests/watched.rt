@@ -1,8 +1,8 @@
 //! Loads of which is told whether scans came before reads.
 ghost use Rattle.std.specs.Prelude.{Some};
 
-use crate::{status_of, words_of};
 use csv_source::{Failed, Gate, MemorySink, MemorySource, NoMemory, Source};
+use loader_runs::{status_of, words_of};
 use std::alloc::Global;
 use std::sync::Wait;
 use std::sync::atomic::{AtomicU64, Ordering};
@@ -69,7 +69,7 @@ fn pieces_of(
 /// What came of a watched load.
 #[derive(Drop)]
 pub struct Watched {
-    pub status: u8,
+    status: u8,
     sink: MemorySink,
     /// The calls of the source.
     pub calls: u64,
@@ -83,8 +83,9 @@ pub struct Watched {
 }
 
 impl Watched {
-    pub fn text(&self) -> &[u8] {
-        self.sink.taken()
+    /// Whether it has this status and this text.
+    pub fn is(&self, status: u8, text: &[u8]) -> bool {
+        self.status == status && self.sink.taken() == text
     }
 }
 

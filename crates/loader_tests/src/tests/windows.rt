@@ -1,8 +1,8 @@
 //! Inputs of which only a part is held at a time. The first part holds the sample, and so has more than 4 MiB.
-use super::made::made;
+use super::large::made;
 use super::watched::{Watched, watched_load};
-use crate::repeated;
 use csv_source::NoMemory;
+use loader_runs::repeated;
 use std::alloc::Global;
 use std::sync::Wait;
 use std::test::Fail;
@@ -24,19 +24,19 @@ const LOAD_MADE: &[&str] = &[
     "max_line_size=1000",
 ];
 
-/// The load of many made rows.
-fn made_load<R: Threads + Wait + Sync>(rt: &R, alloc: Global) -> Result<Watched, NoMemory> {
+/// Whether a scan of many made rows comes before the last read, and all is read.
+fn made_rows_are_read_beside<R: Threads + Wait + Sync>(
+    rt: &R,
+    alloc: Global,
+) -> Result<bool, NoMemory> {
     let text = made(rt, alloc)?;
-    watched_load(rt, alloc, LOAD_MADE, text.taken(), None)
+    let load = watched_load(rt, alloc, LOAD_MADE, text.taken(), None)?;
+    Ok(load.is(3, FIRST_ERROR) && load.scanned_before_last && load.left == 0)
 }
 
 #[test]
 fn scans_begin_before_the_last_read(rt: HostRuntime) -> Result<(), Fail> {
-    let load = made_load(&rt, rt.alloc())?;
-    assert_eq!(rt; load.status, 3);
-    assert!(rt; load.text() == FIRST_ERROR);
-    assert!(rt; load.scanned_before_last);
-    assert_eq!(rt; load.left, 0);
+    assert!(rt; made_rows_are_read_beside(&rt, rt.alloc())?);
     Ok(())
 }
 
@@ -81,42 +81,50 @@ const LOAD_FAULTY_PIPED: &[&str] = &[
     "pipeline=true",
 ];
 
-/// The load of the faulty rows.
-fn faulty_load<R: Threads + Wait + Sync>(
+const READ_FAULT: &[u8] = b"fault|read\n";
+
+/// A load of the faulty rows, and one whose last call of the source fails.
+fn faulty_loads<R: Threads + Wait + Sync>(
     rt: &R,
     alloc: Global,
     words: &[&str],
-    failing_call: Option<u64>,
-) -> Result<Watched, NoMemory> {
+) -> Result<(Watched, Watched), NoMemory> {
     let input = faulty_rows(alloc)?;
-    watched_load(rt, alloc, words, &input, failing_call)
+    let whole = watched_load(rt, alloc, words, &input, None)?;
+    let torn = watched_load(rt, alloc, words, &input, Some(whole.calls))?;
+    Ok((whole, torn))
 }
 
-const READ_FAULT: &[u8] = b"fault|read\n";
+/// Whether the first row ends the one, and the fault the other.
+fn are_told(loads: &(Watched, Watched)) -> bool {
+    let (whole, torn) = loads;
+    whole.is(3, FAULTY_ROW) && torn.is(2, READ_FAULT)
+}
+
+/// Whether they are told, and only the first group is scanned, before the last read.
+fn one_group_is_scanned<R: Threads + Wait + Sync>(rt: &R, alloc: Global) -> Result<bool, NoMemory> {
+    let loads = faulty_loads(rt, alloc, LOAD_FAULTY)?;
+    Ok(are_told(&loads) && loads.0.scanned_before_last && loads.0.scans <= 64)
+}
 
 #[test]
 fn a_read_that_fails_comes_before_a_first_error(rt: HostRuntime) -> Result<(), Fail> {
-    let load = faulty_load(&rt, rt.alloc(), LOAD_FAULTY, None)?;
-    assert_eq!(rt; load.status, 3);
-    assert!(rt; load.text() == FAULTY_ROW);
-    assert!(rt; load.scanned_before_last);
-    assert!(rt; load.scans <= 64);
-    let load = faulty_load(&rt, rt.alloc(), LOAD_FAULTY, Some(load.calls))?;
-    assert_eq!(rt; load.status, 2);
-    assert!(rt; load.text() == READ_FAULT);
+    assert!(rt; one_group_is_scanned(&rt, rt.alloc())?);
     Ok(())
 }
 
-// The data have 77 ranges, 64 of them in the first group.
+/// Whether they are told, and all 77 ranges of the data are scanned, 64 of them in the first group.
+fn all_ranges_are_scanned<R: Threads + Wait + Sync>(
+    rt: &R,
+    alloc: Global,
+) -> Result<bool, NoMemory> {
+    let loads = faulty_loads(rt, alloc, LOAD_FAULTY_PIPED)?;
+    Ok(are_told(&loads) && loads.0.scans >= 77)
+}
+
 #[test]
 fn all_ranges_are_scanned_while_more_is_read(rt: HostRuntime) -> Result<(), Fail> {
-    let load = faulty_load(&rt, rt.alloc(), LOAD_FAULTY_PIPED, None)?;
-    assert_eq!(rt; load.status, 3);
-    assert!(rt; load.text() == FAULTY_ROW);
-    assert!(rt; load.scans >= 77);
-    let load = faulty_load(&rt, rt.alloc(), LOAD_FAULTY_PIPED, Some(load.calls))?;
-    assert_eq!(rt; load.status, 2);
-    assert!(rt; load.text() == READ_FAULT);
+    assert!(rt; all_ranges_are_scanned(&rt, rt.alloc())?);
     Ok(())
 }
 
@@ -136,30 +144,34 @@ const LOAD_LIMITED: &[&str] = &[
 
 const TOO_LARGE: &[u8] = b"fault|input over 4999998 bytes\n";
 
-/// The load of the faulty rows under a limit.
-fn limited_load<R: Threads + Wait + Sync>(rt: &R, alloc: Global) -> Result<Watched, NoMemory> {
+/// Whether of two bytes over the limit one is read, and a scan came before the last read.
+fn one_byte_over_is_read<R: Threads + Wait + Sync>(
+    rt: &R,
+    alloc: Global,
+) -> Result<bool, NoMemory> {
     let input = faulty_rows(alloc)?;
-    watched_load(rt, alloc, LOAD_LIMITED, &input, None)
+    let load = watched_load(rt, alloc, LOAD_LIMITED, &input, None)?;
+    Ok(load.is(7, TOO_LARGE) && load.scanned_before_last && load.left == 1)
 }
 
-// Of two bytes over the limit one is read.
 #[test]
 fn an_input_over_its_limit_comes_before_a_first_error(rt: HostRuntime) -> Result<(), Fail> {
-    let load = limited_load(&rt, rt.alloc())?;
-    assert_eq!(rt; load.status, 7);
-    assert!(rt; load.text() == TOO_LARGE);
-    assert!(rt; load.scanned_before_last);
-    assert_eq!(rt; load.left, 1);
+    assert!(rt; one_byte_over_is_read(&rt, rt.alloc())?);
     Ok(())
 }
 
-// Four bytes are read of five.
+/// Whether four bytes are read of five.
+fn four_are_read_of_five<R: Threads + Wait + Sync>(
+    rt: &R,
+    alloc: Global,
+) -> Result<bool, NoMemory> {
+    let words = &["load", "f.csv", "max_input=3"];
+    let load = watched_load(rt, alloc, words, b"a,b\nc", None)?;
+    Ok(load.is(7, b"fault|input over 3 bytes\n") && load.left == 1 && load.next == b'c')
+}
+
 #[test]
 fn what_stands_behind_the_limit_is_left(rt: HostRuntime) -> Result<(), Fail> {
-    let words = &["load", "f.csv", "max_input=3"];
-    let load = watched_load(&rt, rt.alloc(), words, b"a,b\nc", None)?;
-    assert_eq!(rt; load.status, 7);
-    assert_eq!(rt; load.left, 1);
-    assert_eq!(rt; load.next, b'c');
+    assert!(rt; four_are_read_of_five(&rt, rt.alloc())?);
     Ok(())
 }

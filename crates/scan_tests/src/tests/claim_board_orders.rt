@@ -6,7 +6,6 @@ use claim_board::{Board, Claim, Drawer};
 use csv_source::NoMemory;
 use std::alloc::Global;
 use std::process::Abort;
-use std::test::Fail;
 
 /// How many numbers the board has.
 const NUMBERS: u64 = 100;
@@ -25,8 +24,8 @@ fn split_off(alloc: Global, board: &Board, first: &mut Drawer) -> Result<Vec<Dra
     Ok(others)
 }
 
-// A drawer draws what a plain counter stands at.
-fn draw(rt: &impl Abort, board: &Board, drawer: &mut Drawer, counter: &mut u64)
+// Whether a drawer draws what a plain counter stands at.
+fn draws(board: &Board, drawer: &mut Drawer, counter: &mut u64) -> bool
     requires within { drawer.old.board ≡ board.now }
     ensures { drawer.new.board ≡ board.now }
 {
@@ -35,34 +34,34 @@ fn draw(rt: &impl Abort, board: &Board, drawer: &mut Drawer, counter: &mut u64)
     } else {
         Claim::AllDrawn
     };
-    assert_eq!(rt; board.claim(drawer), wanted);
     *counter = NUMBERS.min(counter.wrapping_add(1));
+    board.claim(drawer) == wanted
 }
 
-// The drawers take turns, as many and in an order as the seed names.
+// Whether the drawers, which take turns, as many and in an order as the seed names, draw as the counter does.
 fn take_turns(
-    rt: &impl Abort,
     board: &Board,
     first: &mut Drawer,
     others: &mut [Drawer],
+    counter: &mut u64,
     seed: u64,
-) -> u64
+) -> bool
     requires first { first.old.board ≡ board.now }
     requires others { All (λ d. d.board ≡ board.now) others.old }
     ensures first { first.new.board ≡ board.now }
     ensures others { All (λ d. d.board ≡ board.now) others.new }
 {
-    let mut counter = 0;
+    let mut all = true;
     for turn in 0..seed % 200 {
         let number = seed.wrapping_add(turn).wrapping_mul(2_654_435_761) % (1 << 32);
         let drawer = (number / 16 % 64) as usize;
-        if drawer < others.len() {
-            draw(rt, board, &mut others[drawer], &mut counter);
+        all = if drawer < others.len() {
+            draws(board, &mut others[drawer], counter) && all
         } else {
-            draw(rt, board, first, &mut counter);
-        }
+            draws(board, first, counter) && all
+        };
     }
-    counter
+    all
 }
 
 // All drawers are joined into the first.
@@ -76,43 +75,28 @@ fn join_all(board: &Board, first: &mut Drawer, mut others: Vec<Drawer>)
     }
 }
 
-// The drawers go through one order, and as many numbers were drawn as the counter tells.
-fn run_order(rt: &impl Abort, alloc: Global, seed: u64) -> Result<(), NoMemory> {
-    let (board, mut first) = Board::new(alloc, NUMBERS)?;
-    let mut others = split_off(alloc, &board, &mut first)?;
-    let drawn = take_turns(rt, &board, &mut first, &mut others, seed);
+// Whether the drawers go through one order as the counter does, and as many numbers were drawn as it tells.
+fn is_plain(rt: &impl Abort, alloc: Global, seed: u64) -> bool {
+    let (board, mut first) = Board::new(alloc, NUMBERS).expect(rt, "memory");
+    let mut others = split_off(alloc, &board, &mut first).expect(rt, "memory");
+    let mut drawn = 0;
+    let all = take_turns(&board, &mut first, &mut others, &mut drawn, seed);
     join_all(&board, &mut first, others);
-    assert_eq!(rt; board.close(first), drawn);
-    Ok(())
+    board.close(first) == drawn && all
 }
 
 #[test]
-fn a_thousand_orders_answer_as_a_plain_counter(rt: HostRuntime) -> Result<(), Fail> {
+fn a_thousand_orders_answer_as_a_plain_counter(rt: HostRuntime) {
     for seed in 0..1000 {
-        run_order(&rt, rt.alloc(), seed)?;
+        assert!(rt; is_plain(&rt, rt.alloc(), seed), "{seed}");
     }
-    Ok(())
 }
 
 #[test]
-fn draws_each_number_once(rt: HostRuntime) -> Result<(), Fail> {
-    let (board, mut drawer) = Board::new(rt.alloc(), 2)?;
-    assert_eq!(rt; board.claim(&mut drawer), Claim::Range(0));
-    assert_eq!(rt; board.claim(&mut drawer), Claim::Range(1));
-    assert_eq!(rt; board.claim(&mut drawer), Claim::AllDrawn);
-    assert_eq!(rt; board.claim(&mut drawer), Claim::AllDrawn);
-    assert_eq!(rt; board.close(drawer), 2);
-    Ok(())
-}
-
-#[test]
-fn two_drawers_share_the_numbers(rt: HostRuntime) -> Result<(), Fail> {
-    let (board, mut drawer) = Board::new(rt.alloc(), 5)?;
-    let mut other = board.split(&mut drawer);
-    assert_eq!(rt; board.claim(&mut other), Claim::Range(0));
-    assert_eq!(rt; board.claim(&mut drawer), Claim::Range(1));
-    assert_eq!(rt; board.claim(&mut other), Claim::Range(2));
-    board.join(&mut drawer, other);
-    assert_eq!(rt; board.close(drawer), 3);
-    Ok(())
+fn draws_each_number_once(rt: HostRuntime) {
+    let (board, mut drawer) = Board::new(rt.alloc(), 2).expect(&rt, "memory");
+    assert!(rt; board.claim(&mut drawer) == Claim::Range(0));
+    assert!(rt; board.claim(&mut drawer) == Claim::Range(1));
+    assert!(rt; board.claim(&mut drawer) == Claim::AllDrawn);
+    assert!(rt; board.close(drawer) == 2);
 }

@@ -3,15 +3,9 @@ use super::dialects::{backslashes, commas, commented};
 use byte_classes::Dialect;
 use quote_automaton::State;
 use range_guess::{Span, Stretch, cut, guess, opening_in};
-use std::process::Abort;
 
 /// A range, the byte before it, and the guess.
 struct Guess(&'static str, Option<u8>, State);
-
-fn check_guess(rt: &impl Abort, dialect: &Dialect, row: &Guess) {
-    let state = guess(dialect, row.0.as_bytes(), row.1);
-    assert_eq!(rt; state, row.2, "of {}", row.0);
-}
 
 const DOUBLED: [Guess; 8] = [
     Guess("5\"", Some(b','), State::Quoted),
@@ -39,66 +33,52 @@ const COMMENTED: [Guess; 6] = [
     Guess("#a", Some(b'\r'), State::CrSeen),
 ];
 
+fn are_guessed(dialect: &Dialect, rows: &[Guess]) -> bool {
+    for row in rows {
+        if guess(dialect, row.0.as_bytes(), row.1) != row.2 {
+            return false;
+        }
+    }
+    true
+}
+
 #[test]
 fn ranges_are_guessed_by_their_first_pair(rt: HostRuntime) {
-    let comma = commas(&rt);
-    for row in &DOUBLED {
-        check_guess(&rt, &comma, row);
-    }
-    for row in &ESCAPED {
-        check_guess(&rt, &backslashes(&rt), row);
-    }
-    for row in &COMMENTED {
-        check_guess(&rt, &commented(&rt, comma), row);
-    }
+    assert!(rt; are_guessed(&commas(&rt), &DOUBLED));
+    assert!(rt; are_guessed(&backslashes(&rt), &ESCAPED));
+    assert!(rt; are_guessed(&commented(&rt, commas(&rt)), &COMMENTED));
 }
 
 #[test]
 fn the_last_range_may_be_shorter(rt: HostRuntime) {
     let ranges = cut(10, 4);
     assert!(rt; ranges.count() == 3);
-    assert_eq!(rt; ranges.bounds(1), (4, 8));
-    assert_eq!(rt; ranges.bounds(2), (8, 10));
-    assert_eq!(rt; cut(0, 4).count(), 0);
+    assert!(rt; ranges.bounds(1) == (4, 8) && ranges.bounds(2) == (8, 10));
+    assert!(rt; cut(0, 4).count() == 0);
 }
 
-#[test]
-fn a_stretch_has_spans_of_a_window(rt: HostRuntime) {
-    let stretch = Stretch {
-        first_range: 63,
-        from: 3,
-        to: 12,
-        range_size: 4,
-    };
-    assert_eq!(rt; stretch.count(), 3);
-    let last = Span {
-        number: 65,
-        from: 11,
-        to: 12,
-    };
-    assert_eq!(rt; stretch.span_of(2), last);
-}
+/// Ranges 63 to 65, of which the second begins a group.
+const STRETCH: Stretch = Stretch {
+    first_range: 63,
+    from: 0,
+    to: 9,
+    range_size: 4,
+};
 
 #[test]
-fn the_first_of_a_group_opens_where_the_range_before_it_ends(rt: HostRuntime) {
-    let dialect = commas(&rt);
-    let text = b"1,2\n3,4\n";
-    let first = Span {
-        number: 64,
-        from: 4,
-        to: 8,
-    };
-    let next = Span {
-        number: 65,
-        from: 4,
-        to: 8,
-    };
-    assert_eq!(rt;
-        opening_in(&dialect, text, &first, State::Quoted),
-        State::Quoted
+fn a_group_opens_where_the_range_before_it_ends(rt: HostRuntime) {
+    assert!(rt; STRETCH.count() == 3);
+    let (dialect, text) = (commas(&rt), b"1,2\n3,4\n5");
+    let first = STRETCH.span_of(1);
+    let next = STRETCH.span_of(2);
+    assert!(rt;
+        first
+            == Span {
+                number: 64,
+                from: 4,
+                to: 8
+            }
     );
-    assert_eq!(rt;
-        opening_in(&dialect, text, &next, State::Quoted),
-        State::RowStart
-    );
+    assert!(rt; opening_in(&dialect, text, &first, State::Quoted) == State::Quoted);
+    assert!(rt; opening_in(&dialect, text, &next, State::Quoted) == State::RowStart);
 }

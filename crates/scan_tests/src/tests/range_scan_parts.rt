@@ -1,67 +1,46 @@
 //! Parts of ranges: what one tells of its range, and how they are joined.
-use super::dialects::commas;
-use super::range_scan_ranges::context;
-use csv_source::OpenGate;
-use quote_automaton::State;
-use range_scan::{CALLER, Joined, RangeScanner, Span, View, scan};
-use std::test::Fail;
-use value_types::ColumnType;
+ghost use Rattle.std.specs.Prelude.{IfOk};
+ghost use Rattle.range_scan.specs.Scanned.{HasColumns};
 
-#[test]
-fn a_part_tells_its_range(rt: HostRuntime) -> Result<(), Fail> {
-    let context = context(rt.alloc(), commas(&rt), ColumnType::Bigint)?;
+use super::contexts::context;
+use super::dialects::commas;
+use csv_source::{NoMemory, OpenGate};
+use quote_automaton::State;
+use range_scan::{CALLER, Context, Joined, Part, RangeScanner, Span, View, scan, sum_of};
+use std::alloc::Global;
+
+fn is_bad_part(part: &Part) -> bool {
+    part.number() == 7
+        && part.opened() == State::RowStart
+        && part.end() == State::FieldStart
+        && part.line_ends() == 1
+        && part.bad()
+        && part.table().rows() == 0
+        && part.book().len() == 2
+}
+
+/// Whether a range of a text tells its number, its states, its line end and its two faults.
+fn tells_its_range(alloc: Global, context: &Context) -> Result<bool, NoMemory>
+    requires { HasColumns context.now.schema }
+{
     let span = Span {
         number: 7,
         from: 2,
         to: 6,
     };
-    let part = scan(
-        rt.alloc(),
-        &context,
-        b"1\nx\n\xFF,2",
-        0,
-        &span,
-        State::RowStart,
-    )?;
-    assert_eq!(rt; part.number(), 7);
-    assert_eq!(rt; part.opened(), State::RowStart);
-    assert_eq!(rt; part.end(), State::FieldStart);
-    assert_eq!(rt; part.line_ends(), 1);
-    assert!(rt; part.bad());
-    assert_eq!(rt; part.table().rows(), 0);
-    assert_eq!(rt; part.book().len(), 2);
-    Ok(())
+    let part = scan(alloc, context, b"1\nx\n\xFF,2", 0, &span, State::RowStart)?;
+    Ok(is_bad_part(&part))
 }
 
-#[test]
-fn a_part_is_appended_behind_others(rt: HostRuntime) -> Result<(), Fail> {
-    let context = context(rt.alloc(), commas(&rt), ColumnType::Bigint)?;
-    let text = b"1,a\nx,b\n2,c\n";
-    let span = Span {
-        number: 0,
-        from: 0,
-        to: 12,
-    };
-    let mut joined = Joined::new(rt.alloc(), &context, State::RowStart)?;
-    let first = scan(rt.alloc(), &context, text, 0, &span, State::RowStart)?;
-    joined.append(Joined::of(first, false, 12))?;
-    let next = scan(rt.alloc(), &context, text, 12, &span, State::RowStart)?;
-    joined.append(Joined::of(next, true, 12))?;
-    assert_eq!(rt; (joined.end, joined.line_ends), (State::RowStart, 6));
-    assert_eq!(rt; (joined.rescans, joined.rescanned), (1, 12));
-    assert_eq!(rt; joined.table.rows(), 4);
-    assert!(rt; joined.book.len() == 2);
-    assert_eq!(rt; joined.book.get(1).line, 5);
-    Ok(())
-}
-
-#[test]
-fn a_range_with_a_wrong_guess_is_scanned_again(rt: HostRuntime) -> Result<(), Fail> {
-    let context = context(rt.alloc(), commas(&rt), ColumnType::Bigint)?;
+/// Whether a range that opens inside quotes, and is guessed to open at a row's start, is joined without a row.
+fn is_scanned_again(alloc: Global, context: &Context) -> Result<bool, NoMemory>
+    requires { HasColumns context.now.schema }
+{
+    let gate = &OpenGate;
     let scanner = RangeScanner {
-        alloc: rt.alloc(),
-        context: &context,
-        gate: &OpenGate,
+        alloc,
+        context,
+        gate,
     };
     let view = View {
         bytes: b"1,\"\n2,3\n\"\n4,5\n",
@@ -72,15 +51,31 @@ fn a_range_with_a_wrong_guess_is_scanned_again(rt: HostRuntime) -> Result<(), Fa
         from: 4,
         to: 8,
     };
-    let mut joined = Joined::new(rt.alloc(), &context, State::Quoted)?;
+    let mut joined = Joined::new(alloc, context, State::Quoted)?;
     let first = scanner.opening(&view, &span, joined.end);
-    assert_eq!(rt; first, State::RowStart);
     let kept = scanner.scan(CALLER, &view, &span, first)?;
-    assert_eq!(rt; kept.table().rows(), 1);
+    let rows = kept.table().rows();
     let part = scanner.part_in(&view, &span, joined.end, Some(kept))?;
     joined.add_range(part, first, 4)?;
-    assert_eq!(rt; joined.table.rows(), 0);
-    assert_eq!(rt; (joined.end, joined.line_ends), (State::Quoted, 1));
-    assert_eq!(rt; (joined.rescans, joined.rescanned), (1, 4));
-    Ok(())
+    Ok(first == State::RowStart && rows == 1 && is_joined_again(&joined))
+}
+
+fn is_joined_again(joined: &Joined) -> bool {
+    joined.table.rows() == 0
+        && joined.end == State::Quoted
+        && joined.line_ends == 1
+        && joined.rescans == 1
+        && joined.rescanned == 4
+}
+
+#[test]
+fn parts_tell_their_ranges_and_are_joined(rt: HostRuntime) {
+    let context = context(rt.alloc(), commas(&rt)).expect(&rt, "memory");
+    assert!(rt; tells_its_range(rt.alloc(), &context).expect(&rt, "memory"));
+    assert!(rt; is_scanned_again(rt.alloc(), &context).expect(&rt, "memory"));
+}
+
+#[test]
+fn numbers_are_added_up_to_the_largest(rt: HostRuntime) {
+    assert!(rt; sum_of(2, 3) == Ok(5) && sum_of(u64::MAX, 1).is_err());
 }

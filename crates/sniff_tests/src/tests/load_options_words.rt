@@ -1,107 +1,87 @@
 //! Lines of words that are accepted, and the options that they give.
-use super::words::{accepted, is_accepted, repeated};
-use load_options::{Choice, Options, OutputFormat, TABLE_NAME_LIMIT, is_sqlite};
+use super::words::{accepted, is_accepted};
+use load_options::{Choice, Options, OutputFormat, is_sqlite};
 use std::alloc::Global;
 use std::process::Abort;
-use std::test::Fail;
 
-fn check_dialect_defaults(rt: &impl Abort, options: &Options) {
-    assert_eq!(rt; options.delim, None);
-    assert_eq!(rt; options.quote, Choice::Detect);
-    assert_eq!(rt; options.escape, Choice::Detect);
-    assert_eq!(rt; options.comment, None);
-    assert_eq!(rt; options.header, None);
+fn has_dialect_defaults(options: &Options) -> bool {
+    options.delim.is_none()
+        && options.quote == Choice::Detect
+        && options.escape == Choice::Detect
+        && options.comment.is_none()
+        && options.header.is_none()
 }
 
-fn check_number_defaults(rt: &impl Abort, options: &Options) {
-    assert_eq!(rt; options.skip, 0);
-    assert_eq!(rt; options.sample_size, 20_480);
-    assert_eq!(rt; options.rejects_limit, 0);
-    assert_eq!(rt; options.max_line_size, 2_097_152);
-    assert_eq!(rt; options.max_input, 1_073_741_824);
-    assert_eq!(rt; options.threads, 4);
-    assert_eq!(rt; options.range_size, 1_048_576);
+fn has_number_defaults(options: &Options) -> bool {
+    options.skip == 0
+        && options.sample_size == 20_480
+        && options.rejects_limit == 0
+        && options.max_line_size == 2_097_152
+        && options.max_input == 1_073_741_824
+        && options.threads == 4
+        && options.range_size == 1_048_576
 }
 
-fn check_other_defaults(rt: &impl Abort, options: &Options) {
-    assert!(rt; options.allow_quoted_nulls && !options.all_varchar && !options.null_padding);
-    assert!(rt; !options.ignore_errors && !options.store_rejects);
-    assert!(rt; !options.stats && !options.pipeline);
-    assert_eq!(rt; options.names.len(), 0);
-    assert_eq!(rt; options.types.len(), 0);
-    assert_eq!(rt; options.column_types.names.len(), 0);
-    assert_eq!(rt; options.column_types.types.len(), 0);
-    assert_eq!(rt; options.nullstr.as_slice(), b"".as_slice());
-    assert_eq!(rt; options.nulls.len(), 0);
-    assert_eq!(rt; options.max_errors, None);
-    assert!(rt; !options.explain);
-    assert!(rt; !options.same_header);
-    assert_eq!(rt; options.to, None);
-    assert_eq!(rt; options.table.as_slice(), b"data".as_slice());
+fn has_truth_defaults(options: &Options) -> bool {
+    options.allow_quoted_nulls
+        && !options.all_varchar
+        && !options.null_padding
+        && !options.ignore_errors
+        && !options.store_rejects
+        && !options.stats
+        && !options.pipeline
+        && !options.explain
+        && !options.same_header
+}
+
+fn has_text_defaults(options: &Options) -> bool {
+    options.names.len() == 0
+        && options.types.len() == 0
+        && options.column_types.names.len() == 0
+        && options.column_types.types.len() == 0
+        && options.nullstr.as_slice() == b"".as_slice()
+        && options.nulls.len() == 0
+        && options.max_errors.is_none()
+        && options.to.is_none()
+        && options.table.as_slice() == b"data".as_slice()
+}
+
+fn has_defaults(options: &Options) -> bool {
+    has_dialect_defaults(options)
+        && has_number_defaults(options)
+        && has_truth_defaults(options)
+        && has_text_defaults(options)
 }
 
 #[test]
-fn options_that_are_not_given_have_defaults(rt: HostRuntime) -> Result<(), Fail> {
-    let request = accepted(&rt, rt.alloc(), "summary f.csv")?;
-    check_dialect_defaults(&rt, &request.options);
-    check_number_defaults(&rt, &request.options);
-    check_other_defaults(&rt, &request.options);
-    Ok(())
+fn options_that_are_not_given_have_defaults(rt: HostRuntime) {
+    let request = accepted(&rt, rt.alloc(), "summary f.csv");
+    assert!(rt; has_defaults(&request.options));
 }
 
 const GIVEN: &str =
     "load f.csv delim=\\t quote= escape= nullstr=a=b names=x,y types=DATE,VARCHAR threads=064 skip=1000000 range_size=67108864 pipeline=true";
 
-fn check_given(rt: &impl Abort, options: &Options) {
-    assert_eq!(rt; options.delim, Some(b'\t'));
-    assert_eq!(rt; options.quote, Choice::Nothing);
-    assert_eq!(rt; options.escape, Choice::Nothing);
-    assert_eq!(rt; options.nullstr.as_slice(), b"a=b".as_slice());
-    assert_eq!(rt; options.names.len(), 2);
-    assert_eq!(rt; options.types.len(), 2);
-    assert_eq!(rt; options.threads, 64);
-    assert_eq!(rt; options.skip, 1_000_000);
-    assert_eq!(rt; options.range_size, 67_108_864);
-    assert!(rt; options.pipeline);
+fn are_bytes_given(options: &Options) -> bool {
+    options.delim == Some(b'\t')
+        && options.quote == Choice::Nothing
+        && options.escape == Choice::Nothing
+        && options.nullstr.as_slice() == b"a=b".as_slice()
+}
+
+fn are_numbers_given(options: &Options) -> bool {
+    options.names.len() == 2
+        && options.types.len() == 2
+        && options.threads == 64
+        && options.skip == 1_000_000
+        && options.range_size == 67_108_864
+        && options.pipeline
 }
 
 #[test]
-fn accepted_words_give_options(rt: HostRuntime) -> Result<(), Fail> {
-    let request = accepted(&rt, rt.alloc(), GIVEN)?;
-    check_given(&rt, &request.options);
-    Ok(())
-}
-
-/// A line, and the byte with which its comment lines begin.
-struct Commented(&'static str, Option<u8>);
-
-const COMMENTED: [Commented; 9] = [
-    Commented("convert f.csv comment=# threads=8", Some(b'#')),
-    Commented("load f.csv comment=#", Some(b'#')),
-    Commented("load f.csv comment=", None),
-    Commented("load f.csv comment= delim=,", None),
-    Commented("load f.csv comment=\t delim=,", Some(b'\t')),
-    Commented("load f.csv comment=' delim=\" escape=", Some(b'\'')),
-    Commented("load f.csv comment=' delim=\"", Some(b'\'')),
-    Commented(
-        "load f.csv comment=' delim=\" quote=; escape=\\",
-        Some(b'\''),
-    ),
-    Commented("load f.csv comment=\" escape=\\", Some(b'"')),
-];
-
-fn check_comment(rt: &impl Abort, alloc: Global, row: &Commented) -> Result<(), Fail> {
-    let request = accepted(rt, alloc, row.0)?;
-    assert_eq!(rt; request.options.comment, row.1, "{}", row.0);
-    Ok(())
-}
-
-#[test]
-fn a_comment_byte_is_given(rt: HostRuntime) -> Result<(), Fail> {
-    for row in &COMMENTED {
-        check_comment(&rt, rt.alloc(), row)?;
-    }
-    Ok(())
+fn accepted_words_give_options(rt: HostRuntime) {
+    let request = accepted(&rt, rt.alloc(), GIVEN);
+    assert!(rt; are_bytes_given(&request.options) && are_numbers_given(&request.options));
 }
 
 /// A line, the format that it gives, and the name of the table.
@@ -137,33 +117,24 @@ const FORMATTED: [Formatted; 7] = [
     ),
 ];
 
-fn check_format(rt: &impl Abort, alloc: Global, row: &Formatted) -> Result<(), Fail> {
-    let options = accepted(rt, alloc, row.0)?.options;
-    assert_eq!(rt; options.to, row.1, "{}", row.0);
-    assert_eq!(rt;
-        is_sqlite(options.to),
-        row.1 == Some(OutputFormat::Sqlite),
-        "{}",
-        row.0
-    );
-    assert_eq!(rt; options.table.as_slice(), row.2, "{}", row.0);
-    Ok(())
+fn is_formatted(options: &Options, row: &Formatted) -> bool {
+    options.to == row.1
+        && is_sqlite(options.to) == (row.1 == Some(OutputFormat::Sqlite))
+        && options.table.as_slice() == row.2
+}
+
+fn gives_format(rt: &impl Abort, alloc: Global, row: &Formatted) -> bool {
+    is_formatted(&accepted(rt, alloc, row.0).options, row)
 }
 
 #[test]
-fn words_name_a_format_and_a_table(rt: HostRuntime) -> Result<(), Fail> {
+fn words_name_a_format_and_a_table(rt: HostRuntime) {
     for row in &FORMATTED {
-        check_format(&rt, rt.alloc(), row)?;
+        assert!(rt; gives_format(&rt, rt.alloc(), row), "{}", row.0);
     }
-    Ok(())
 }
 
 #[test]
-fn a_table_name_has_at_most_1000_bytes(rt: HostRuntime) -> Result<(), Fail> {
-    let front = "convert f.csv to=sqlite table=";
-    let most = repeated(rt.alloc(), front, "n", TABLE_NAME_LIMIT)?;
-    assert!(rt; is_accepted(rt.alloc(), &most)?);
-    let more = repeated(rt.alloc(), front, "n", 1_001)?;
-    assert!(rt; !is_accepted(rt.alloc(), &more)?);
-    Ok(())
+fn ten_million_rows_are_made_at_most(rt: HostRuntime) {
+    assert!(rt; is_accepted(&rt, rt.alloc(), "make 7 rows=10000000"));
 }

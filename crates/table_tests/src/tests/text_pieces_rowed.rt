@@ -1,6 +1,7 @@
 //! Texts of rows, whose lines are made in rounds.
 use csv_source::{Failed, MemorySink, NoMemory, Sink};
 use std::alloc::Global;
+use std::process::Abort;
 use std::thread::Threads;
 use text_pieces::{Draft, RowLines, RowedText, Workers, write_text};
 
@@ -39,21 +40,10 @@ impl RowLines for Letters {
     }
 }
 
-/// Whether a sink takes exactly these bytes of a text of rows.
-pub(crate) fn is_rowed_text<R: Threads + Sync, T: RowLines + Sync + Drop>(
-    rt: &R,
-    alloc: Global,
-    text: RowedText<T>,
-    expected: &[u8],
-) -> Result<bool, NoMemory> {
-    let mut sink = MemorySink::with_room(alloc, expected.len())?;
-    Ok(text.write(rt, &mut sink).is_ok() && sink.taken() == expected)
-}
-
-/// Many rows of this room go into no block.
+/// A line of this room has a block to itself, and few lines are no short text.
 const MUCH: usize = 3 << 20;
 
-/// The lines of these letters behind a head, and before a tail.
+/// The lines of the first letters behind a head, and before a tail.
 fn text_of<R>(
     workers: &Workers<'_, R>,
     letters: &[u8],
@@ -69,61 +59,91 @@ fn text_of<R>(
     RowedText::new(workers, head, rows, b">".to_vec(workers.alloc)?)
 }
 
-/// What is wanted of no letters up to seven, and of more than one round has.
-const WANTED: [(&[u8], &[u8]); 7] = [
-    (b"", b"<>"),
-    (b"a", b"<a>"),
-    (b"ab", b"<ab>"),
-    (b"abcde", b"<abcde>"),
-    (b"abcdefg", b"<abcdefg>"),
-    (b"abcdefghijk", b"<abcdefghijk>"),
-    (
-        b"abcdefghijklmnopqrstuvwxyz",
-        b"<abcdefghijklmnopqrstuvwxyz>",
-    ),
+/// Letters between a head and a tail: none up to seven, and more than one round has.
+const TEXTS: [&[u8]; 7] = [
+    b"<>",
+    b"<a>",
+    b"<ab>",
+    b"<abcde>",
+    b"<abcdefg>",
+    b"<abcdefghijk>",
+    b"<abcdefghijklmnopqrstuvwxyz>",
 ];
 
-#[test]
-fn rows_are_written_in_order_whatever_the_blocks(rt: HostRuntime) -> Result<(), NoMemory> {
-    let alloc = rt.alloc();
-    for threads in [0u32, 1, 2, 4] {
-        let workers = Workers {
-            rt: &rt,
-            alloc,
-            threads,
-        };
+/// How many bytes a sink takes of a text before a call that fails, and whether all are taken; nothing where they are others.
+fn taken<R: Threads + Sync + Abort>(
+    workers: &Workers<'_, R>,
+    text: RowedText<Letters>,
+    want: &[u8],
+    failing: u64,
+) -> Option<(usize, bool)> {
+    let mut sink = MemorySink::with_room(workers.alloc, want.len()).expect(workers.rt, "memory");
+    sink.fail_call(failing).expect(workers.rt, "memory");
+    let all = text.write(workers.rt, &mut sink).is_ok();
+    let front = want.starts_with(sink.taken()) && all == (sink.taken() == want);
+    if front {
+        Some((sink.taken().len(), all))
+    } else {
+        None
+    }
+}
+
+/// What a sink takes of a text whose lines have this room, up to a call that fails.
+fn taken_of<R: Threads + Sync + Abort>(
+    workers: &Workers<'_, R>,
+    want: &[u8],
+    lines: (usize, bool),
+    failing: u64,
+) -> Option<(usize, bool)> {
+    if want.len() < 2 {
+        return None;
+    }
+    match text_of(workers, &want[1..want.len() - 1], lines.0, lines.1) {
+        Ok(text) => taken(workers, text, want, failing),
+        Err(NoMemory) => None,
+    }
+}
+
+/// A call that no text here comes to.
+const NO_CALL: u64 = 1_000;
+
+/// Whether texts are written whole, whatever room a line is told to take.
+fn are_written<R: Threads + Sync + Abort>(workers: &Workers<'_, R>) -> bool {
+    for want in TEXTS {
         for room in [0, 1, 40_000, MUCH] {
-            for (letters, wanted) in WANTED {
-                let text = text_of(&workers, letters, room, false)?;
-                assert!(rt; is_rowed_text(&rt, alloc, text, wanted)?);
+            if taken_of(workers, want, (room, false), NO_CALL) != Some((want.len(), true)) {
+                return false;
             }
         }
     }
-    Ok(())
+    true
 }
 
-#[test]
-fn rows_whose_memory_is_refused_are_written_straight(rt: HostRuntime) -> Result<(), NoMemory> {
-    let alloc = rt.alloc();
-    for threads in [1u32, 2, 4] {
-        let workers = Workers {
-            rt: &rt,
-            alloc,
-            threads,
-        };
-        for (letters, wanted) in WANTED {
-            let Ok(text) = text_of(&workers, letters, MUCH, true) else {
-                assert!(rt; letters.is_empty());
-                continue;
-            };
-            assert!(rt; is_rowed_text(&rt, alloc, text, wanted)?);
+/// Whether texts of some rows are written whole where their lines find no memory.
+fn are_written_straight<R: Threads + Sync + Abort>(workers: &Workers<'_, R>) -> bool {
+    for want in TEXTS {
+        let whole = taken_of(workers, want, (MUCH, true), NO_CALL) == Some((want.len(), true));
+        if !whole && want.len() > 2 {
+            return false;
         }
     }
-    Ok(())
+    true
 }
 
 #[test]
-fn few_rows_want_their_memory_before_the_first_byte(rt: HostRuntime) -> Result<(), NoMemory> {
+fn rows_are_written_in_order_whatever_the_blocks(rt: HostRuntime) {
+    for threads in [0u32, 1, 2, 4] {
+        let workers = Workers {
+            rt: &rt,
+            alloc: rt.alloc(),
+            threads,
+        };
+        assert!(rt; are_written(&workers) && are_written_straight(&workers));
+    }
+}
+
+#[test]
+fn few_rows_want_their_memory_before_the_first_byte(rt: HostRuntime) {
     let workers = Workers {
         rt: &rt,
         alloc: rt.alloc(),
@@ -131,66 +151,39 @@ fn few_rows_want_their_memory_before_the_first_byte(rt: HostRuntime) -> Result<(
     };
     assert!(rt; text_of(&workers, b"abc", 1, true).is_err());
     assert!(rt; text_of(&workers, b"abc", MUCH, true).is_ok());
-    Ok(())
 }
 
-/// The bytes that are taken before each write of a head, of twenty-six rows in a round of sixteen blocks and another, and of a
-/// tail: the rows of the second round are two to a block, or one where those of the first couldn't be made.
-const TAKEN: [(bool, &[usize]); 2] = [
-    (
-        false,
-        &[
-            0, 1, 2, 3, 4, 5, 6, 7, 8, 9, 10, 11, 12, 13, 14, 15, 16, 17, 19, 21, 23, 25, 27,
-        ],
-    ),
-    (
-        true,
-        &[
-            0, 1, 2, 3, 4, 5, 6, 7, 8, 9, 10, 11, 12, 13, 14, 15, 16, 17, 18, 19, 20, 21, 22, 23,
-            24, 25, 26, 27,
-        ],
-    ),
-];
+/// Whether each write that fails leaves a front of a text, the first nothing, and none less than one before it.
+fn leave_fronts<R: Threads + Sync + Abort>(workers: &Workers<'_, R>, refused: bool) -> bool {
+    let mut before = 0;
+    for failing in 1..40u64 {
+        let Some((count, _)) = taken_of(workers, TEXTS[6], (MUCH, refused), failing) else {
+            return false;
+        };
+        if count < before || (failing == 1) != (count == 0) {
+            return false;
+        }
+        before = count;
+    }
+    before == TEXTS[6].len()
+}
 
 #[test]
-fn a_write_that_fails_leaves_those_before(rt: HostRuntime) -> Result<(), NoMemory> {
-    let alloc = rt.alloc();
+fn a_write_that_fails_leaves_those_before(rt: HostRuntime) {
     let workers = Workers {
         rt: &rt,
-        alloc,
+        alloc: rt.alloc(),
         threads: 2,
     };
-    let (letters, wanted) = WANTED[6];
-    for (refused, lengths) in TAKEN {
-        let mut number: u64 = 0;
-        for &length in lengths {
-            number = number.wrapping_add(1);
-            let mut sink = MemorySink::with_room(alloc, 100)?;
-            sink.fail_call(number)?;
-            let text = text_of(&workers, letters, MUCH, refused)?;
-            assert!(rt; text.write(&rt, &mut sink).is_err());
-            assert!(rt; sink.taken().len() == length && wanted.starts_with(sink.taken()));
-        }
-    }
-    Ok(())
+    assert!(rt; leave_fronts(&workers, false) && leave_fronts(&workers, true));
 }
 
 #[test]
-fn a_short_text_is_one_write(rt: HostRuntime) -> Result<(), NoMemory> {
-    let alloc = rt.alloc();
+fn a_short_text_is_one_write(rt: HostRuntime) {
     let workers = Workers {
         rt: &rt,
-        alloc,
+        alloc: rt.alloc(),
         threads: 4,
     };
-    let (letters, wanted) = WANTED[4];
-    let mut sink = MemorySink::with_room(alloc, 100)?;
-    sink.fail_call(2)?;
-    assert!(rt;
-        text_of(&workers, letters, 2, false)?
-            .write(&rt, &mut sink)
-            .is_ok()
-    );
-    assert!(rt; sink.taken() == wanted);
-    Ok(())
+    assert!(rt; taken_of(&workers, TEXTS[4], (2, false), 2) == Some((TEXTS[4].len(), true)));
 }

@@ -1,114 +1,55 @@
 //! Four links on the worked chain in many orders, each answer beside that of a plain array.
-ghost use Rattle.std.specs.Prelude.{◌≡◌, None, IfOk};
-ghost use Rattle.std.specs.List.{All};
 ghost use Rattle.chain_words.specs.Worked.{IsReady};
 
+use super::links::Links;
 use super::plain::PlainChain;
-use super::walker::{RANGES, Walker, guessed, rescanned};
-use chain_words::{Chain, Front};
-use csv_source::NoMemory;
+use super::walker::{RANGES, Turn};
+use chain_words::Chain;
 use std::alloc::Global;
 use std::process::Abort;
-use std::test::Fail;
 
-// One turn of a link, chosen by a number: it answers as the plain chain does.
-fn take_turn(
-    rt: &impl Abort,
-    chain: &Chain,
-    walker: &mut Walker,
-    plain: &mut PlainChain,
-    number: u64,
-)
-    requires { IsReady chain.now walker.old.link walker.old.kept walker.old.duty }
-    ensures { IsReady chain.now walker.new.link walker.new.kept walker.new.duty }
-{
-    if let Some(range) = walker.duty {
-        walker.repost(chain, range);
-        plain.repost(rescanned(range));
-        return;
-    }
+// What a number names.
+fn turn_of(number: u64) -> Turn {
     match number % 3 {
-        0 => {
-            let range = (number / 64 % RANGES as u64) as u32;
-            assert_eq!(rt; walker.post(chain, range), plain.post(guessed(range)));
-        }
-        1 => assert_eq!(rt; walker.advance(chain), plain.advance()),
-        _ => match walker.kept {
-            Some((mark, state)) => assert_eq!(rt;
-                walker.take(chain, mark, state),
-                plain.take(mark)
-            ),
-            None => assert_eq!(rt; walker.look(chain), plain.front),
-        },
+        0 => Turn::Post((number / 64 % RANGES as u64) as u32),
+        1 => Turn::Advance,
+        _ => Turn::Take,
     }
 }
 
-// Three links are split off.
-fn split_off(alloc: Global, chain: &Chain, first: &mut Walker) -> Result<Vec<Walker>, NoMemory>
-    requires { IsReady chain.now first.old.link first.old.kept first.old.duty }
-    ensures first { IsReady chain.now first.new.link first.new.kept first.new.duty }
-    ensures others { IfOk result (λ made. All (λ w. IsReady chain.now w.link w.kept w.duty) made.items) }
+// Whether the links answer 64 turns, in an order that the seed names, as the plain chain does.
+fn agree(chain: &Chain, links: &mut Links, plain: &mut PlainChain, seed: u64) -> bool
+    requires first { IsReady chain.now links.old.first.link links.old.first.kept links.old.first.duty }
+    requires second { IsReady chain.now links.old.second.link links.old.second.kept links.old.second.duty }
+    requires third { IsReady chain.now links.old.third.link links.old.third.kept links.old.third.duty }
+    requires fourth { IsReady chain.now links.old.fourth.link links.old.fourth.kept links.old.fourth.duty }
+    ensures first { IsReady chain.now links.new.first.link links.new.first.kept links.new.first.duty }
+    ensures second { IsReady chain.now links.new.second.link links.new.second.kept links.new.second.duty }
+    ensures third { IsReady chain.now links.new.third.link links.new.third.kept links.new.third.duty }
+    ensures fourth { IsReady chain.now links.new.fourth.link links.new.fourth.kept links.new.fourth.duty }
 {
-    let mut others = Vec::new(alloc);
-    for _ in 0..3 {
-        others.push(first.split(chain))?;
-    }
-    Ok(others)
-}
-
-// The links take 256 turns, in an order that the seed names. Answers where the plain chain's front is then.
-fn take_turns(
-    rt: &impl Abort,
-    chain: &Chain,
-    first: &mut Walker,
-    others: &mut [Walker],
-    seed: u64,
-) -> Front
-    requires first { IsReady chain.now first.old.link first.old.kept first.old.duty }
-    requires others { All (λ w. IsReady chain.now w.link w.kept w.duty) others.old }
-    ensures first { IsReady chain.now first.new.link first.new.kept first.new.duty }
-    ensures others { All (λ w. IsReady chain.now w.link w.kept w.duty) others.new }
-{
-    let mut plain = PlainChain::new();
-    for turn in 0..256 {
+    for turn in 0..64 {
         let number = seed.wrapping_add(turn).wrapping_mul(2_654_435_761) % (1 << 32);
         let link = (number / 16 % 4) as usize;
-        if link < others.len() {
-            take_turn(rt, chain, &mut others[link], &mut plain, number);
-        } else {
-            take_turn(rt, chain, first, &mut plain, number);
+        let turn = turn_of(number);
+        if links.answer(chain, link, turn) != plain.answer(link, turn) {
+            return false;
         }
     }
-    plain.front
+    true
 }
 
-// All links are joined into the first.
-fn join_all(chain: &Chain, first: &mut Walker, mut others: Vec<Walker>)
-    requires first { IsReady chain.now first.old.link first.old.kept first.old.duty }
-    requires others { All (λ w. IsReady chain.now w.link w.kept w.duty) others.items }
-    ensures ready { IsReady chain.now first.new.link first.new.kept first.new.duty }
-    ensures idle { first.new.duty ≡ None }
-{
-    first.finish(chain);
-    while let Some(walker) = others.pop() {
-        first.join(chain, walker);
-    }
-}
-
-// Four links go through one order, and the front is the plain one in the end.
-fn run_order(rt: &impl Abort, alloc: Global, seed: u64) -> Result<(), NoMemory> {
-    let (chain, mut first) = Walker::first(alloc)?;
-    let mut others = split_off(alloc, &chain, &mut first)?;
-    let front = take_turns(rt, &chain, &mut first, &mut others, seed);
-    join_all(&chain, &mut first, others);
-    assert_eq!(rt; first.close(chain), front);
-    Ok(())
+// Whether the links go through one order as the plain chain does, and the front is the plain one in the end.
+fn is_plain(rt: &impl Abort, alloc: Global, seed: u64) -> bool {
+    let (chain, mut links) = Links::new(alloc).expect(rt, "memory");
+    let mut plain = PlainChain::new();
+    let all = agree(&chain, &mut links, &mut plain, seed);
+    links.close(chain) == plain.front && all
 }
 
 #[test]
-fn a_thousand_orders_answer_as_a_plain_array(rt: HostRuntime) -> Result<(), Fail> {
+fn a_thousand_orders_answer_as_a_plain_array(rt: HostRuntime) {
     for seed in 0..1000 {
-        run_order(&rt, rt.alloc(), seed)?;
+        assert!(rt; is_plain(&rt, rt.alloc(), seed), "{seed}");
     }
-    Ok(())
 }

@@ -9,9 +9,9 @@ use quote_automaton::State;
 use std::alloc::Global;
 
 /// How many ranges the worked plan has.
-pub const RANGES: u32 = 12;
+pub const RANGES: u32 = 5;
 
-/// The plan of `x,5"y` LF `1,2` LF `,"b\""c,d` CR `#ef` LF in ranges of two bytes.
+/// The plan of `x,5"y` LF `1,2` LF in ranges of two bytes.
 pub struct WorkedPlan;
 
 impl Plan for WorkedPlan {
@@ -20,7 +20,7 @@ impl Plan for WorkedPlan {
     ghost plan = { λ _. worked_plan };
 }
 
-pub fn mark(range: u32, opened: State, end: State) -> Mark
+fn mark(range: u32, opened: State, end: State) -> Mark
     ensures { result ≡ record { range = range; opened = opened; end = end; bad = false } }
 {
     Mark {
@@ -33,29 +33,20 @@ pub fn mark(range: u32, opened: State, end: State) -> Mark
 
 /// The mark of a range in its guess.
 pub fn guessed(range: u32) -> Mark
-    requires within { range < 12 }
-    ensures value { IsGuessedMark worked_plan result }
-    ensures range { result.range ≡ range }
+    ensures { IsGuessedMark worked_plan result }
 {
     match range {
         0 => mark(0, State::RowStart, State::FieldStart),
         1 => mark(1, State::Quoted, State::QuoteSeen),
         2 => mark(2, State::QuoteSeen, State::RowStart),
         3 => mark(3, State::RowStart, State::FieldStart),
-        4 => mark(4, State::FieldStart, State::RowStart),
-        5 => mark(5, State::RowStart, State::Quoted),
-        6 => mark(6, State::RowStart, State::Plain),
-        7 => mark(7, State::Plain, State::Plain),
-        8 => mark(8, State::RowStart, State::FieldStart),
-        9 => mark(9, State::FieldStart, State::CrSeen),
-        10 => mark(10, State::CrSeen, State::Comment),
-        _ => mark(11, State::Plain, State::RowStart),
+        _ => mark(4, State::FieldStart, State::RowStart),
     }
 }
 
 /// The mark of a range in its true state.
 pub fn rescanned(range: u32) -> Mark
-    requires within { range < 12 }
+    requires within { range < 5 }
     ensures value { IsTrueMark worked_plan result }
     ensures range { result.range ≡ range }
 {
@@ -64,15 +55,31 @@ pub fn rescanned(range: u32) -> Mark
         1 => mark(1, State::FieldStart, State::Plain),
         2 => mark(2, State::Plain, State::RowStart),
         3 => mark(3, State::RowStart, State::FieldStart),
-        4 => mark(4, State::FieldStart, State::RowStart),
-        5 => mark(5, State::RowStart, State::Quoted),
-        6 => mark(6, State::Quoted, State::Escape),
-        7 => mark(7, State::Escape, State::QuoteSeen),
-        8 => mark(8, State::QuoteSeen, State::Broken),
-        9 => mark(9, State::Broken, State::CrSeen),
-        10 => mark(10, State::CrSeen, State::Comment),
-        _ => mark(11, State::Comment, State::RowStart),
+        _ => mark(4, State::FieldStart, State::RowStart),
     }
+}
+
+/// What a link does next.
+#[derive(Clone, Copy, Debug)]
+pub enum Turn {
+    /// It posts this range in its guess.
+    Post(u32),
+    /// It advances, and keeps the difference that it is told.
+    Advance,
+    /// It takes the duty of the difference that it keeps, and forgets it; where it keeps none it looks.
+    Take,
+    /// It posts the range of its duty again.
+    PostAgain,
+}
+
+/// What a link was told.
+#[derive(Clone, Copy, Debug, PartialEq, Eq)]
+pub enum Answer {
+    Post(Post),
+    Advance(Advance),
+    Duty(Duty),
+    Front(Front),
+    PostedAgain(Mark),
 }
 
 /// A link, the last difference that it was told, and its duty.
@@ -110,23 +117,39 @@ impl Walker {
         Walker::new(chain.split(&mut self.link))
     }
 
-    pub fn post(&mut self, chain: &Chain, range: u32) -> Post
-        requires within { range < 12 }
+    /// What the link is told in its turn. With a duty it only posts again.
+    pub fn answer(&mut self, chain: &Chain, turn: Turn) -> Answer
+        requires ready { IsReady chain.now self.old.link self.old.kept self.old.duty }
+        ensures { IsReady chain.now self.new.link self.new.kept self.new.duty }
+    {
+        if let Some(range) = self.duty {
+            return Answer::PostedAgain(self.repost(chain, range));
+        }
+        match turn {
+            Turn::Post(range) => Answer::Post(self.post(chain, range)),
+            Turn::Advance => Answer::Advance(self.advance(chain)),
+            Turn::Take | Turn::PostAgain => match self.kept {
+                Some((mark, state)) => Answer::Duty(self.take(chain, mark, state)),
+                None => Answer::Front(self.look(chain)),
+            },
+        }
+    }
+
+    fn post(&mut self, chain: &Chain, range: u32) -> Post
         requires ready { IsReady chain.now self.old.link self.old.kept self.old.duty }
         ensures { IsReady chain.now self.new.link self.new.kept self.new.duty }
     {
         chain.post(&mut self.link, guessed(range))
     }
 
-    pub fn look(&mut self, chain: &Chain) -> Front
+    fn look(&mut self, chain: &Chain) -> Front
         requires ready { IsReady chain.now self.old.link self.old.kept self.old.duty }
         ensures { IsReady chain.now self.new.link self.new.kept self.new.duty }
     {
         chain.look(&mut self.link)
     }
 
-    /// Keeps the difference that the answer tells.
-    pub fn advance(&mut self, chain: &Chain) -> Advance
+    fn advance(&mut self, chain: &Chain) -> Advance
         requires ready { IsReady chain.now self.old.link self.old.kept self.old.duty }
         ensures { IsReady chain.now self.new.link self.new.kept self.new.duty }
     {
@@ -137,8 +160,7 @@ impl Walker {
         answer
     }
 
-    /// Takes the duty of a difference.
-    pub fn take(&mut self, chain: &Chain, mark: Mark, state: State) -> Duty
+    fn take(&mut self, chain: &Chain, mark: Mark, state: State) -> Duty
         requires idle { self.old.duty ≡ None }
         requires kept { self.old.kept ≡ Some (mark, state) }
         requires ready { IsReady chain.now self.old.link self.old.kept self.old.duty }
@@ -152,15 +174,16 @@ impl Walker {
         answer
     }
 
-    /// Posts the range of its duty again.
-    pub fn repost(&mut self, chain: &Chain, range: u32)
+    fn repost(&mut self, chain: &Chain, range: u32) -> Mark
         requires duty { self.old.duty ≡ Some range }
         requires ready { IsReady chain.now self.old.link self.old.kept self.old.duty }
         ensures ready { IsReady chain.now self.new.link self.new.kept self.new.duty }
         ensures idle { self.new.duty ≡ None }
     {
         self.duty = None;
-        chain.repost(&mut self.link, rescanned(range));
+        let mark = rescanned(range);
+        chain.repost(&mut self.link, mark);
+        mark
     }
 
     /// Posts the duty, if there is one.

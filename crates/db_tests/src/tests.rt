@@ -1,2 +1,0 @@
-mod images;
-mod rows;

@@ -1,6 +1,0 @@
-use Rattle.std.proofs.Common.{sym}
-use Rattle.value_types.specs.declared.types.ColumnType.TheVariants.{Bigint}
-use Rattle.table_tests.proofs.tests.tables.number.Goals as goal
-
-pub returns-in-Some-clause-spelled : goal.returns-in-Some-clause-spelled
-returns-in-Some-clause-spelled c = (c.args.text.now, Bigint, sym c.in-Some.ensures)
