@@ -38,6 +38,9 @@ PAUSE = 4_300_000
 # KiB of address space, from what the program can't begin with to what serves several threads.
 MEMORY = (3_000, 4_000, 5_000, 6_000, 8_000, 12_000, 24_000, 48_000, 96_000, 192_000)
 
+# So many writes a text of ROWS rows takes at most, which is 5 MB: a row for each would be a thousand times as many.
+FEW_WRITES = 250
+
 # Each call that writes.
 CALLS = [f"{command} short.csv" for command in ("load", "summary", "convert", "rejects", "batch", "sniff")]
 CALLS += ["make 7", "--help", "--version"]
@@ -128,6 +131,15 @@ def fault_trials() -> list[Trial]:
         trials.append(Trial("a write that fails", line % "ENOSPC", 5, written))
         trials.append(Trial("a write that takes nothing", line % "NOTHING", 5, written))
         trials.append(Trial("a write that is interrupted", line % "EINTR", 0, PART))
+    return trials
+
+
+def memory_trials() -> list[Trial]:
+    """No memory once the writing has begun: the text is the same, in few writes, of which one past those few would fail."""
+    trials = []
+    for (call, text), threads in itertools.product((("load", WHOLE), ("convert", table(ROWS))), (1, 4)):
+        fault = f"WRITE_FAULT={FEW_WRITES + 1}:ENOSPC LD_PRELOAD=./memory.so:./pieces.so"
+        trials.append(Trial("no memory once it writes", f"{fault} csvload {call} whole.csv threads={threads}", 0, text))
     return trials
 
 
@@ -242,7 +254,7 @@ def main() -> None:
         fill(folder)
         trials = output_trials() + input_trials()
         if build(folder):
-            trials += piece_trials() + fault_trials() + change_trials() + thread_trials() + wait_trials()
+            trials += piece_trials() + fault_trials() + memory_trials() + change_trials() + thread_trials() + wait_trials()
         verdicts = [is_right(trial, *run(["sh", "-c", trial.line], folder)) for trial in trials]
         verdicts += [check_socket(folder), check_little_memory(folder)]
     if not all(verdicts):

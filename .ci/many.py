@@ -1,7 +1,8 @@
 #!/usr/bin/env python3
 """Converts a folder of files by examples/many.sh with two workers, one of which is killed midway, and then goes on.
 
-CSVLOAD names the program. Where GNU parallel isn't installed that is said and nothing is tried.
+Besides: what it refuses at its start, and what a second call does anew. CSVLOAD names the program. Where GNU parallel isn't
+installed a few lines of Python stand in for it, which is said.
 """
 
 import csv
@@ -13,7 +14,7 @@ import sys
 import tempfile
 
 SCRIPT = pathlib.Path(__file__).parent.parent / "examples" / "many.sh"
-NEEDED = ("bash", "awk", "parallel")
+NEEDED = ("bash", "awk")
 FILES = {f"f{number}.csv": f'id,note\n{number},a\n2,"say ""x"", y"\n' for number in range(1, 5)}
 FILES["f5.csv"] = 'id,note\nx,"c\nd"\n4\n5,"l\n1"\n'
 FILES["f 6.csv"] = "id,note\n7,z\n"
@@ -27,6 +28,17 @@ if [ "$1" = convert ] && [[ $2 == *f3.csv ]] && [ ! -e "$KILLED" ]; then
     kill -9 $$
 fi
 exec "$PROGRAM" "$@"
+"""
+
+
+# For GNU parallel as the script calls it: --will-cite --null JOB, with the files in standard input, two at a time.
+STAND_IN = """#!/usr/bin/env python3
+import multiprocessing.pool, pathlib, shlex, subprocess, sys
+def run(file):
+    job = sys.argv[3].replace("{/.}", shlex.quote(pathlib.Path(file).stem)).replace("{}", shlex.quote(file))
+    return subprocess.run(["bash", "-c", job]).returncode
+files = [file for file in sys.stdin.read().split("\\0") if file]
+sys.exit(any(multiprocessing.pool.ThreadPool(2).map(run, files, 1)))
 """
 
 
@@ -44,6 +56,11 @@ def convert(folder: pathlib.Path, into: pathlib.Path, environment: dict[str, str
     """The status of the script, and what it said."""
     run = subprocess.run([SCRIPT, folder, into, *words], env=environment, capture_output=True, text=True, timeout=120)
     return run.returncode, run.stderr
+
+
+def executable(path: pathlib.Path, text: str) -> None:
+    path.write_text(text)
+    path.chmod(0o755)
 
 
 def matches_batch(folder: pathlib.Path, into: pathlib.Path, names: list[str], *words: str) -> None:
@@ -68,6 +85,58 @@ def typed(made: str, environment: dict[str, str]) -> None:
         matches_batch(folder, into, sorted(TYPED), word)
 
 
+def refused(made: str, environment: dict[str, str]) -> None:
+    """What is refused with status 2, before anything is made."""
+    folder, into = pathlib.Path(made, "refused"), pathlib.Path(made, "none of it")
+    folder.mkdir()
+    pathlib.Path(folder, "a.csv").write_text("id,v\n1,a\n")
+    same = pathlib.Path(made, "same")
+    same.symlink_to(folder)
+    cases = [
+        (folder, folder, environment, f"'{folder}' and '{folder}' are one folder: the results want another"),
+        (folder, same, environment, f"'{folder}' and '{same}' are one folder: the results want another"),
+        (folder, into, dict(environment, CSVLOAD="no such"), "no program 'no such' (CSVLOAD names it)"),
+        (folder / "no", into, environment, f"'{folder}/no' is no folder"),
+        (folder, into, environment, f"'{folder}/rejects.csv' would have the name of the gathered rejects: rename it, or use to=sqlite"),
+    ]
+    for source, target, given, line in cases:
+        if "rejects.csv" in line:
+            pathlib.Path(folder, "rejects.csv").write_text("id,v\n3,c\nx,d\n")
+        there = sorted(folder.iterdir())
+        assert convert(source, target, given) == (2, f"many.sh: {line}\n"), (line, convert(source, target, given))
+        assert sorted(folder.iterdir()) == there and not into.exists(), line
+    status, said = convert(folder, into, environment, "to=sqlite", "types=BIGINT,VARCHAR")
+    assert status == 0, (status, said)
+    assert sorted(path.name for path in into.glob("*.db")) == ["a.db", "rejects.db"], list(into.iterdir())
+    assert [[row[0], row[9]] for row in rows_of(into / "rejects.csv")[1:]] == [["rejects.csv", "x,d"]]
+
+
+def anew(made: str, environment: dict[str, str]) -> None:
+    """A second call keeps the results of the same words, also under other threads, and does all anew under others or of another
+    folder."""
+    folder, into = pathlib.Path(made, "twice"), pathlib.Path(made, "twice into")
+    folder.mkdir()
+    for name in ("a.csv", "b.csv"):
+        pathlib.Path(folder, name).write_text("id,v\n1,a\n2,NA\n")
+    results = [into / "a.csv", into / "b.csv"]
+    made_at = []
+    for words in [], [], ["threads=1"], ["nulls=,NA"], ["nulls=,NA"], []:
+        status, said = convert(folder, into, environment, *words)
+        assert (status, said) == (0, ""), (words, status, said)
+        cells = [[row[1] for row in rows_of(result)] for result in results]
+        assert cells == [["v", "a", "" if "nulls=,NA" in words else "NA"]] * 2, (words, cells)
+        made_at.append([result.stat().st_mtime_ns for result in results])
+    kept = [before == after for before, after in zip(made_at, made_at[1:])]
+    assert kept == [True, True, False, True, False], kept
+    # Files of the same names in another folder, which are older than the results.
+    other = pathlib.Path(made, "other")
+    shutil.copytree(folder, other)
+    pathlib.Path(other, "b.csv").write_text("id,v\n1,c\n")
+    os.utime(other / "b.csv", (0, 0))
+    assert convert(other, into, environment) == (0, "")
+    assert [row[1] for row in rows_of(results[1])] == ["v", "c"], rows_of(results[1])
+
+
 def main() -> None:
     missing = [name for name in NEEDED if not shutil.which(name)]
     if missing:
@@ -78,10 +147,15 @@ def main() -> None:
         folder.mkdir()
         for name, text in FILES.items():
             pathlib.Path(folder, name).write_text(text)
-        killed = pathlib.Path(made, "csvload")
-        killed.write_text(KILLED)
-        killed.chmod(0o755)
+        killed, tools = pathlib.Path(made, "csvload"), pathlib.Path(made, "tools")
+        tools.mkdir()
+        executable(killed, KILLED)
+        by = "GNU parallel"
+        if not shutil.which("parallel"):
+            by = "a stand-in for GNU parallel"
+            executable(tools / "parallel", STAND_IN)
         environment = dict(os.environ, CSVLOAD=str(killed), PROGRAM=os.environ["CSVLOAD"], KILLED=f"{made}/killed", PARALLEL="--jobs 2", HOME=made)
+        environment["PATH"] = f"{tools}:{environment['PATH']}"
 
         status, said = convert(folder, into, environment)
         assert status == 1 and "f3.csv' failed" in said, (status, said)
@@ -93,7 +167,9 @@ def main() -> None:
         rejects = rows_of(into / "rejects.csv")
         assert rejects[0][0] == "file" and [[row[0], row[8], row[9]] for row in rejects[1:]] == REJECTS, rejects
         typed(made, environment)
-    print(f"{sys.argv[0]}: {len(FILES)} files by two workers, one killed midway: none lost, none twice")
+        refused(made, environment)
+        anew(made, environment)
+    print(f"{sys.argv[0]}: {len(FILES)} files by two workers of {by}, one killed midway: none lost, none twice")
 
 
 if __name__ == "__main__":

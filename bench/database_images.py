@@ -1,5 +1,5 @@
 #!/usr/bin/env python3
-"""The databases that crates/db_tests makes, by another program: database_images.py [FOLDER]
+"""The databases that crates/database_tests makes, by another program: database_images.py [FOLDER]
 
 Lays out the same rows by SQLite's "Database File Format", asks sqlite3 for integrity_check and for the rows, and prints
 the length and the SHA-256 of each file. With a folder the files are kept there.
@@ -166,6 +166,22 @@ CASES.append(("texts round the limits of a page", [("t", definition(2), texts(LI
 CASES.append(("texts in two groups, and numbers", [
     ("t", definition(2), texts([5] * 8192 + [4062, 10, 9000])),
     ("u", "CREATE TABLE u (c0, c1, c2)", numbers(300, 3))]))
+
+SCANS = ("scan_id INTEGER, file_id INTEGER, file_path TEXT, delimiter TEXT, quote TEXT, escape TEXT, newline_delimiter TEXT,"
+    " skip_rows INTEGER, has_header TEXT, columns INTEGER")
+ERRORS = ("scan_id INTEGER, file_id INTEGER, line INTEGER, line_byte_position INTEGER, byte_position INTEGER, column_idx INTEGER,"
+    " column_name TEXT, error_type TEXT, csv_line TEXT, error_message TEXT")
+
+
+def table_of(name, columns, rows):
+    quoted = ", ".join('"%s" %s' % tuple(column.split()) for column in columns.split(", "))
+    return name, 'CREATE TABLE "%s" (%s)' % (name, quoted), rows
+
+
+CASES.append(("three blocks of texts, without rejects", [
+    table_of("data", "note VARCHAR", [("x" * 9000 if row == 9000 else "short",) for row in range(17000)]),
+    table_of("reject_scans", SCANS, []),
+    table_of("reject_errors", ERRORS, [])]))
 
 folder = sys.argv[1] if len(sys.argv) > 1 else tempfile.mkdtemp()
 for index, (what, tables) in enumerate(CASES):

@@ -4,8 +4,8 @@
 refused_memory.py CSVLOAD [--most N] [--workers]
 
 Each run has to end with the status and the text of a run with memory, or with status 6 and nothing written. A shared
-library that is built here (by gcc) and preloaded does the refusing; threads too ask it for memory. With --workers the
-loads alone are tried, with four of them.
+library that is built here (by gcc) and preloaded does the refusing; threads too ask it for memory. With --workers loads
+are tried with four of them alone.
 """
 
 import argparse
@@ -83,7 +83,8 @@ int posix_memalign(void **piece, size_t alignment, size_t size) {
 FAULTY = b"1,a\nx,b\n3,c\n4\n5,\"d\"\"e\"\n"
 
 # What each run is given: a load with rejects, a load that ends with its first error, a summary, what is found, a made file,
-# a table as CSV, and two files.
+# a table as CSV, and two files; then the rejects as CSV, a database, what explains what is found, two files of one header, types
+# by name, several texts for null, a bound on faults that is passed, and stages.
 RUNS = [
     ["load", "FILE", "types=BIGINT,VARCHAR", "header=false", "store_rejects=true", "range_size=4"],
     ["load", "FILE", "types=BIGINT,VARCHAR", "header=false", "range_size=4"],
@@ -92,6 +93,14 @@ RUNS = [
     ["make", "7", "rows=20"],
     ["convert", "FILE", "ignore_errors=true", "range_size=4"],
     ["batch", "FILE,FILE", "types=BIGINT,VARCHAR", "header=false", "store_rejects=true", "range_size=4"],
+    ["rejects", "FILE", "types=BIGINT,VARCHAR", "header=false", "range_size=4"],
+    ["convert", "FILE", "to=sqlite", "types=BIGINT,VARCHAR", "header=false", "store_rejects=true", "range_size=4"],
+    ["sniff", "FILE", "explain=true"],
+    ["batch", "FILE,FILE", "same_header=true", "header=true", "ignore_errors=true", "range_size=4"],
+    ["load", "FILE", "column_types=column0:BIGINT", "header=false", "ignore_errors=true", "range_size=4"],
+    ["load", "FILE", "nulls=,NA,x", "header=false", "ignore_errors=true", "range_size=4"],
+    ["load", "FILE", "types=BIGINT,VARCHAR", "header=false", "ignore_errors=true", "max_errors=1", "range_size=4"],
+    ["load", "FILE", "types=BIGINT,VARCHAR", "header=false", "store_rejects=true", "range_size=4", "pipeline=true"],
 ]
 
 
@@ -130,7 +139,7 @@ def main() -> None:
     parser = argparse.ArgumentParser()
     parser.add_argument("csvload")
     parser.add_argument("--most", type=int, default=400, help="the largest n")
-    parser.add_argument("--workers", action="store_true", help="the loads alone, with four workers")
+    parser.add_argument("--workers", action="store_true", help="loads with four workers, and none with one")
     options = parser.parse_args()
     with tempfile.TemporaryDirectory() as folder:
         source, library = pathlib.Path(folder) / "refuse.c", pathlib.Path(folder) / "refuse.so"
@@ -139,7 +148,7 @@ def main() -> None:
         file = pathlib.Path(folder) / "f.csv"
         file.write_bytes(FAULTY)
         print("runs with the whole text, and with status 6 and nothing written")
-        for words in RUNS[:2] if options.workers else RUNS:
+        for words in RUNS:
             for threads in crews_of(words[0], options.workers):
                 given = [word.replace("FILE", str(file)) for word in words] + threads
                 for later in (False, True):

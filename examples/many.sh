@@ -6,18 +6,28 @@
 # Of each FOLDER/NAME.csv comes INTO/NAME.csv, or with to=sqlite INTO/NAME.db, read as `csvload batch` reads it: under what is
 # found in the first file, by the order of the names. Faulty rows are left out and stand in INTO/rejects.csv, the file's name
 # before each. A result stands in INTO only when it is whole: what failed is named at the end, with status 1, and the next call
-# does that alone. Further words are csvload's own options. Options of GNU parallel, as --jobs 4 or --sshlogin one,other, stand
-# in the variable PARALLEL; other machines must see both folders under the same names. CSVLOAD names the program.
+# does that and what is newer than its result; of another FOLDER, under other words, or where other ones fit the first file, it
+# does all anew. With status 2 nothing was begun.
+# Further words are csvload's own options. Options of GNU parallel, as --jobs 4 or --sshlogin one,other, stand in the variable
+# PARALLEL; other machines must see both folders under the same names. CSVLOAD names the program.
 set -euo pipefail
 if [ $# -lt 2 ]; then
-    sed -n '2,11s/^# \{0,1\}//p' "$0" >&2
-    exit 1
+    sed -n '2,13s/^# \{0,1\}//p' "$0" >&2
+    exit 2
 fi
-folder=$(cd "$1" && pwd)
-mkdir -p "$2/.rejects"
-into=$(cd "$2" && pwd)
-shift 2
 csvload=${CSVLOAD:-csvload}
+
+refuse() {
+    echo "${0##*/}: $1" >&2
+    exit 2
+}
+if [ ! -d "$1" ]; then refuse "'$1' is no folder"; fi
+if [ "$1" -ef "$2" ]; then refuse "'$1' and '$2' are one folder: the results want another"; fi
+if ! command -v "$csvload" >/dev/null; then refuse "no program '$csvload' (CSVLOAD names it)"; fi
+if ! command -v parallel >/dev/null; then refuse "no program 'parallel' (GNU parallel)"; fi
+folder=$(cd "$1" && pwd)
+target=$2
+shift 2
 ending=csv
 
 # Whether a word gives an option of one of these names.
@@ -37,9 +47,9 @@ for word in "$@"; do
 done
 
 files=("$folder"/*.csv)
-if [ ! -e "${files[0]}" ]; then
-    echo "${0##*/}: '$folder' has no file NAME.csv" >&2
-    exit 1
+if [ ! -e "${files[0]}" ]; then refuse "'$folder' has no file NAME.csv"; fi
+if [ $ending = csv ] && [ -e "$folder/rejects.csv" ]; then
+    refuse "'$folder/rejects.csv' would have the name of the gathered rejects: rename it, or use to=sqlite"
 fi
 
 # The words that fix what was found in the first file stand in one line, cut at bars, and shown with backslashes.
@@ -54,10 +64,7 @@ done < <(LC_ALL=C awk '/^words\|/ {
         if (substr(rest, RLENGTH + 1, 1) == "|") { word = part; gsub(/\\\|/, "|", word); print word; part = part "|" }
     }
 }' <<< "$explained")
-if [ ${#found[@]} -eq 0 ]; then
-    echo "${0##*/}: '${files[0]}' can't be read" >&2
-    exit 1
-fi
+if [ ${#found[@]} -eq 0 ]; then refuse "'${files[0]}' can't be read"; fi
 # They have no types where some are given by name, or all columns are texts: those of the first file's columns stand for them.
 if ! printf '%s\n' "${found[@]}" | grep -q '^types='; then
     found+=("types=$(awk -F'|' '/^column\|/ { printf "%s%s", comma, $3; comma = "," }' <<< "$explained")")
@@ -67,14 +74,24 @@ for word in "${reading[@]}"; do
     if ! gives "$word" "${found[@]%%=*}" column_types all_varchar; then words+=("$word"); fi
 done
 
+mkdir -p "$target/.rejects"
+into=$(cd "$target" && pwd)
+# What the results were made of and with stands beside them, but for the words that change no result.
+made_with=$(printf '%q ' "$folder")
+for word in "${words[@]}" ${writing[@]+"${writing[@]}"}; do
+    if ! gives "$word" threads range_size pipeline; then made_with+=$(printf '%q ' "$word"); fi
+done
+kept=
+if [ -e "$into/.rejects/words" ]; then kept=$(<"$into/.rejects/words"); fi
 todo=()
 for file in "${files[@]}"; do
     result=$into/$(basename "$file" .csv).$ending
-    if [ ! -e "$result" ] || [ "$file" -nt "$result" ]; then
+    if [ "$kept" != "$made_with" ] || [ ! -e "$result" ] || [ "$file" -nt "$result" ]; then
         rm -f "$result"
         todo+=("$file")
     fi
 done
+printf '%s\n' "$made_with" > "$into/.rejects/words"
 
 # The rejects come first, so that a file whose result is there has them.
 program=$(printf %q "$csvload")

@@ -2,6 +2,7 @@
 
 import os
 import pathlib
+import re
 import socket
 import subprocess
 import tempfile
@@ -21,11 +22,61 @@ HEADED = {"h.csv": b"id,v\n1,a\n", "i.csv": b"v,id\nb,2\n"}
 # The first row is a header then, and the other two have two faults each.
 DATES = ["types=DATE,DATE", "ignore_errors=true"]
 
+# Under types the second row has a fault, and the third has too few columns in any case.
+TYPED = b"id,v\n1,a\nx,b\n2\n"
+
+TYPES = ["types=BIGINT,VARCHAR", "header=true"]
+
+PASSING = ["ignore_errors=true", "max_errors=0"]
+
+SAME_WORDS = "csvload rejects lists them, with the same words but max_errors, to and table"
+
+LONG = "l" * 70 + ".csv"
+
+
+
+def wide(columns: int) -> Case:
+    """A name that no column has, of so many columns."""
+    said = [f"c{column}" for column in range(min(columns, 20))] + [".."] * (columns > 20)
+    data = ",".join(f"c{column}" for column in range(columns)) + "\n" + ",".join("1" * columns) + "\n"
+    line = f"csvload: no column is named 'n': the columns are {', '.join(said)}\n"
+    return Case(["load", "f.csv", "header=true", "column_types=n:DATE"], 4, line, b"fault|no column n\n", {"f.csv": data.encode()})
+
+
+def over(words: list[str], lister: str, name: str = "a.csv", shown: str | None = None) -> Case:
+    """More faults than none, and what lists them."""
+    said = f"csvload: {shown or repr(name)} has more than 0 faults (max_errors){lister and ': '}{lister}\n"
+    return Case([words[0], name, *words[1:], *PASSING], 9, said, b"fault|over 0 faults\n", {name: TYPED} if name != "-" else {}, TYPED)
+
+
+# The words that say which faults there are stand in the line as a shell takes them, where they are seen there and not long.
+OVER = [
+    over(["load", *TYPES], "csvload rejects a.csv types=BIGINT,VARCHAR header=true lists them"),
+    over(["load"], "csvload rejects a.csv lists them"),
+    over(["summary", "comment=#", "nullstr=it's"], r"csvload rejects a.csv 'comment=#' 'nullstr=it'\''s' lists them"),
+    over(["convert", *TYPES, "to=sqlite", "table=t", "store_rejects=true"], "csvload rejects a.csv types=BIGINT,VARCHAR header=true lists them"),
+    over(["load", "store_rejects=true", "rejects_limit=1"], "csvload rejects a.csv lists them"),
+    over(["load"], "csvload rejects 'a b; touch pwn.csv' lists them", "a b; touch pwn.csv"),
+    over(["load"], r"csvload rejects './-it'\''s.csv' lists them", "-it's.csv", "'-it's.csv'"),
+    over(["load"], f"csvload rejects {LONG} lists them", LONG),
+    over(["load"], SAME_WORDS, "a\nb.csv"),
+    over(["load"], SAME_WORDS, "a\u009b2Jb.csv", r"'a\xc2\x9b2Jb.csv'"),
+    over(["load"], SAME_WORDS, "a\u2066b.csv", r"'a\xe2\x81\xa6b.csv'"),
+    over(["load", "nullstr=\u2066"], SAME_WORDS),
+    # The words and the spaces before them have 60 characters, and one more.
+    over(["load", "nullstr=" + "x" * 51], f"csvload rejects a.csv nullstr={'x' * 51} lists them"),
+    over(["load", "nullstr=" + "x" * 52], SAME_WORDS),
+    over(["rejects", *TYPES], ""),
+    over(["load", *TYPES], "", "-", "standard input"),
+]
+
 FAULTS = [
     Case(["load", "absent.csv"], 2, "csvload: 'absent.csv' isn't there\n", READ),
     Case(["load", "f.csv/x"], 2, "csvload: 'f.csv/x' isn't there\n", READ, F),
     Case(["load", "dir"], 2, "csvload: 'dir' is a folder\n", READ),
     Case(["load", "no\x1b[31m\n"], 2, "csvload: 'no\\x1b[31m\\n' isn't there\n", READ),
+    Case(["load", "a\u202eb\u0085.csv"], 2, r"csvload: 'a\xe2\x80\xaeb\xc2\x85.csv' isn't there" + "\n", READ),
+    Case(["load", LONG], 2, f"csvload: '{LONG}' isn't there\n", READ),
     Case(["batch", "f.csv,nope.csv,f.csv"], 2, "csvload: 'nope.csv' isn't there\n", READ, F),
     Case(["load", "f.csv", "max_input=9"], 7, f"csvload: 'f.csv' has more than 9 bytes (max_input); {MOST}\n", NINE, F),
     Case(["batch", "g.csv,f.csv", "max_input=9"], 7, f"csvload: 'f.csv' has more than 9 bytes (max_input); {MOST}\n", NINE, {**F, "g.csv": b"1,2\n"}),
@@ -39,15 +90,37 @@ FAULTS = [
         HEADED,
     ),
     Case(
+        ["batch", f"h.csv,{LONG}", "same_header=true"],
+        4,
+        f"csvload: '{LONG}' hasn't the header of 'h.csv', whose columns are id, v\n",
+        f"fault|other header in {LONG}\n".encode(),
+        {**HEADED, LONG: HEADED["i.csv"]},
+    ),
+    wide(20),
+    wide(21),
+    Case(
         ["convert", "f.csv", *DATES, "max_errors=3"],
         9,
-        "csvload: 'f.csv' has more than 3 faults (max_errors): csvload rejects f.csv lists them\n",
+        "csvload: 'f.csv' has more than 3 faults (max_errors): csvload rejects f.csv types=DATE,DATE lists them\n",
         b"fault|over 3 faults\n",
         F,
     ),
     Case(["batch", "f.csv,f.csv", *DATES, "max_errors=7"], 9, "csvload: the files have more than 7 faults (max_errors)\n", b"fault|over 7 faults\n", F),
     Case(["load", b"\xff.csv"], 8, "csvload: a word isn't UTF-8; a file of such a name is read by csvload load - <FILE\n", b""),
 ]
+
+
+def check_listers() -> None:
+    """A shell that is given the call lists the faults, all of the same file: two under its types, else one."""
+    calls = [(case, found[1]) for case in OVER if (found := re.search(r": csvload (rejects .*) lists them\n", case.said))]
+    assert len(calls) > 5, calls
+    for case, call in calls:
+        with tempfile.TemporaryDirectory() as folder:
+            pathlib.Path(folder, case.words[1]).write_bytes(TYPED)
+            done = subprocess.run(["sh", "-c", '"$0" ' + call, PROGRAM], cwd=folder, capture_output=True, timeout=60)
+            same((done.returncode, os.listdir(folder)), (0, [case.words[1]]), call)
+        same(done.stdout.count(b"\n"), 3 if TYPES[0] in case.words else 2, call)
+
 
 ROWS = b"1,2\n3,4\n5,6\n"
 
@@ -110,7 +183,8 @@ def check_closed_pipe() -> None:
 
 
 def main() -> None:
-    check(FAULTS)
+    check(FAULTS + OVER)
+    check_listers()
     check_standard_input()
     check_no_leave()
     check_full_disk()

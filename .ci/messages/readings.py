@@ -4,6 +4,7 @@ The line on a long reading is shown on a terminal alone, so there standard error
 """
 
 import array
+import concurrent.futures
 import fcntl
 import os
 import pathlib
@@ -137,6 +138,43 @@ def check_reading_of_file() -> None:
     same(megabytes, sorted(megabytes), words)
 
 
+# Words that read standard input, and how the text begins.
+SCREENS = [
+    (["summary", "-"], b"options|delim=,|"),
+    (["load", "-", "pipeline=true"], b"options|delim=,|"),
+    (["convert", "-"], b"a,b\r\n1,2\r\n"),
+    (["rejects", "-"], b"scan_id,file_id,"),
+    (["batch", "-,-"], b"options|delim=,|"),
+    (["load", "-", "types=DATE,DATE", "header=true"], b"options|delim=,|"),
+    (["load", "-", "types=DATE,DATE", "ignore_errors=true", "max_errors=0"], b"fault|over 0 faults\r\ncsvload: standard input has"),
+    (["load", "-", "max_input=11"], b"fault|input over 11 bytes\r\ncsvload: standard input has"),
+    (["convert", "-", "to=sqlite"], b"SQLite format 3\0"),
+]
+
+
+def screen_of(words: list[str]) -> bytes:
+    """What comes to a terminal on which both the text and the lines for a person are; a database gets there by a pipe."""
+    terminal, other_side = pty.openpty()
+    reading, pipe = os.pipe()
+    call = ["sh", "-c", '"$0" "$@" | cat', PROGRAM, *words] if "to=sqlite" in words else [PROGRAM, *words]
+    with subprocess.Popen(call, stdin=reading, stdout=other_side, stderr=other_side) as program:
+        os.close(other_side)
+        os.close(reading)
+        feed(pipe, [(b"a,b\n1,2\n3,", SILENCE), (b"4", STEP), (b"\n", 0)])
+        return read_all(terminal)
+
+
+def check_taken_away() -> None:
+    """The line on a long reading is gone before the text begins, and comes no more, whatever the text is."""
+    with concurrent.futures.ThreadPoolExecutor() as pool:
+        screens = list(pool.map(screen_of, [words for words, _ in SCREENS]))
+    for (words, begins), screen in zip(SCREENS, screens, strict=True):
+        first, *lines, text = screen.split(ERASE)
+        same(first, b"", words)
+        assert lines and set(lines) == {b"csvload: 0 MB read"}, f"{' '.join(words)}: {screen!r}"
+        assert text.startswith(begins), f"{' '.join(words)}: {screen!r}"
+
+
 def check_in_file() -> None:
     """A long reading shows nothing where standard error is a file."""
     reading, pipe = os.pipe()
@@ -154,4 +192,5 @@ def main() -> None:
     check_short_reading()
     check_reading_of_pipe()
     check_reading_of_file()
+    check_taken_away()
     check_in_file()

@@ -43,7 +43,29 @@ OPTIONS = [
     option("--delim=,", "BadOption", "'--delim=,' is no option: one is written delim=VALUE, without dashes"),
     option("--frob", "BadOption", "'--frob' is no option: one is written NAME=VALUE"),
     option("b.csv", "BadOption", "'b.csv' is no option; several files: csvload batch f.csv,b.csv"),
-    option("b\x1b\n", "BadOption", r"'b\x1b\n' is no option; several files: csvload batch f.csv,b\x1b\n"),
+    option("b\x1b\n", "BadOption", r"'b\x1b\n' is no option: one is written NAME=VALUE"),
+    option("b\u009b2J", "BadOption", r"'b\xc2\x9b2J' is no option: one is written NAME=VALUE"),
+    option("b\u202e", "BadOption", r"'b\xe2\x80\xae' is no option: one is written NAME=VALUE"),
+    option("b,c.csv", "BadOption", "'b,c.csv' is no option: one is written NAME=VALUE"),
+    option("", "BadOption", "'' is no option: one is written NAME=VALUE"),
+    refused(["load", "a,b.csv", "c"], "BadOption", 2, "'c' is no option: one is written NAME=VALUE"),
+    refused(["load", "a\n.csv", "c"], "BadOption", 2, "'c' is no option: one is written NAME=VALUE"),
+    refused(
+        ["load", "a b; touch pwn.csv", "a b"],
+        "BadOption",
+        2,
+        "'a b' is no option; several files: csvload batch 'a b; touch pwn.csv,a b'",
+    ),
+    refused(
+        ["load", "-f.csv", "skip=1", "it's"],
+        "BadOption",
+        3,
+        r"'it's' is no option; several files: csvload batch './-f.csv,it'\''s'",
+    ),
+    refused(["load", "-", "b.csv"], "BadOption", 2, "'b.csv' is no option; several files: csvload batch -,b.csv"),
+    refused(
+        ["batch", "a.csv,-", "b.csv"], "BadOption", 2, "'b.csv' is no option; several files: csvload batch a.csv,-,b.csv"
+    ),
     refused(
         ["load", "header=true", "f.csv"], "BadOption", 2, "'header=true' was taken as the file: the file comes first"
     ),
@@ -90,58 +112,6 @@ VALUES = [
 ]
 
 
-def conflict(words: list[str], index: int, line: str, command: str = "load") -> Case:
-    return refused([command, "f.csv", *words], "Conflict", index, line)
-
-
-CONFLICTS = [
-    conflict(["rejects_limit=10"], 2, "rejects_limit=10 wants store_rejects=true"),
-    conflict(
-        ["all_varchar=true", "types=DATE"], 3, "all_varchar=true and types=DATE can't stand together: each gives all types"
-    ),
-    conflict(
-        ["types=DATE", "column_types=zip:DATE"],
-        3,
-        "column_types=zip:DATE and types=DATE can't stand together: types gives all columns their types",
-    ),
-    conflict(
-        ["column_types=zip:DATE", "all_varchar=true"],
-        3,
-        "column_types=zip:DATE and all_varchar=true can't stand together: all columns are VARCHAR then",
-    ),
-    conflict(["nullstr=x", "nulls=NA,"], 3, "nulls=NA, and nullstr=x can't stand together: nulls takes all the texts"),
-    conflict(
-        ["same_header=true", "names=a,b"],
-        3,
-        "same_header=true and names=a,b can't stand together: given names are no header's",
-        "batch",
-    ),
-    conflict(
-        ["header=false", "same_header=true"],
-        3,
-        "same_header=true and header=false can't stand together: there is no header then",
-        "batch",
-    ),
-    conflict(["max_errors=5"], 2, "max_errors=5 wants ignore_errors=true or store_rejects=true"),
-    conflict(["names=a,b", "types=DATE"], 3, "names gives 2 and types 1: as many of each are wanted"),
-    conflict(["quote=;", "delim=;"], 3, "delim=; and quote=; are the same character"),
-    conflict(["escape=;", "delim=;"], 3, "delim=; and escape=; are the same character"),
-    conflict(["comment=,", "delim=,"], 3, "comment=, and delim=, are the same character"),
-    conflict(["comment='", "quote='"], 3, "comment=' and quote=' are the same character"),
-    conflict(["comment=!", "escape=!"], 3, "comment=! and escape=! are the same character"),
-    conflict(["escape=!", "quote="], 3, "escape=! and quote= can't stand together: an escape wants a quote"),
-    conflict(
-        ["escape=!", "delim='", 'comment="'],
-        4,
-        "escape=! wants a quote, and delim and comment leave none to be found: give it by quote=",
-    ),
-    conflict(["table=orders"], 2, "table=orders wants to=sqlite", "convert"),
-    conflict(["to=sqlite"], 2, "load writes no database: convert and batch do"),
-    conflict(["to=csv"], 2, "load writes no CSV: convert does"),
-    conflict(["to=csv"], 2, "rejects writes no other format than its CSV", "rejects"),
-    conflict(["to=csv"], 2, "batch writes no CSV: it prints its report, or a database with to=sqlite", "batch"),
-]
-
 # All but the last are good.
 MANY = (
     "load f.csv delim=, quote=' escape=' header=true skip=0 nullstr=x allow_quoted_nulls=true all_varchar=false names=a"
@@ -164,5 +134,5 @@ def check_own_texts() -> None:
 
 
 def main() -> None:
-    check(COMMANDS + OPTIONS + VALUES + CONFLICTS + MANY_WORDS)
+    check(COMMANDS + OPTIONS + VALUES + MANY_WORDS)
     check_own_texts()

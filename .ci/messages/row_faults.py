@@ -1,7 +1,5 @@
 """The lines for a first fault of a row, and for faults that were passed over."""
 
-import gzip
-
 from messages.runs import Case, check, run, same
 
 ANY = "ignore_errors=true passes over faulty rows, store_rejects=true lists them"
@@ -100,6 +98,32 @@ FIRST = [
         "types gives 1 column",
     ),
     first_error(
+        ["load", "names=a,b", "types=VARCHAR,BIGINT", "delim=,"],
+        b"1,2\n3\n",
+        "2: column 2 'b': Expected Number of Columns: 2 Found: 1",
+        "3",
+        1,
+        "types gives 2 columns",
+    ),
+    # The value's own quote ends nothing.
+    first_error(
+        ["load", "types=BIGINT", "delim=,"],
+        b'1\n2"' + b"y" * 100 + b"\n",
+        f"2: column 1 'column0': Could not convert string \"2\"{'y' * 58}..\" to 'BIGINT'",
+        '2"' + "y" * 58,
+        0,
+        ANY,
+    ),
+    # What turns the direction of a text, or begins a terminal's command, is shown by its bytes.
+    first_error(
+        ["load", "types=BIGINT", "delim=,"],
+        "1\n2\u202e\u009b\n".encode(),
+        r"""2: column 1 'column0': Could not convert string "2\xe2\x80\xae\xc2\x9b" to 'BIGINT'""",
+        r"2\xe2\x80\xae\xc2\x9b",
+        0,
+        ANY,
+    ),
+    first_error(
         ["load", "names=a,b", "delim=,"],
         b"1,2\n3\n",
         "2: column 2 'b': Expected Number of Columns: 2 Found: 1",
@@ -149,24 +173,6 @@ FIRST = [
     ),
 ]
 
-PACKED = gzip.compress(b"a,b\n1,2\n" * 30)
-
-
-def check_packed() -> None:
-    """The front of a file tells how it is packed, whatever its rows come to."""
-    zipped = "csvload: the file is compressed: gunzip -c 'my f.gz' | csvload load -\n"
-    status, _, said = run(["load", "my f.gz"], {"my f.gz": PACKED})
-    same((status, said.splitlines(True)[-1]), (3, zipped), "gzip")
-    same(run(["sniff", "my f.gz"], {"my f.gz": PACKED})[2], zipped.replace("load -", "sniff -"), "gzip")
-    quoted = zipped.replace("my f.gz", r"it'\''s.gz").replace("load -", "sniff -")
-    same(run(["sniff", "it's.gz"], {"it's.gz": PACKED})[2], quoted, "gzip")
-    same(run(["sniff", "-"], {}, PACKED)[2], "csvload: the input is compressed: gunzip -c | csvload sniff -\n", "gzip")
-    for code in ["utf-16-le", "utf-16-be"]:
-        status, _, said = run(["load", "f.csv"], {"f.csv": "\ufeffa,b\n1,2\n".encode(code)})
-        last = "csvload: the file is UTF-16: iconv -f UTF-16 -t UTF-8 f.csv | csvload load -\n"
-        same((status, said.splitlines(True)[-1]), (3, last), code)
-
-
 def check_wide() -> None:
     """The first fault behind 2,500 columns with long names, whose lines have more than 60 KB."""
     names = b",".join(b"a_column_with_a_long_name_%05d" % column for column in range(2500))
@@ -191,6 +197,7 @@ PASSED = [
         ["convert", "store_rejects=true"],
         "csvload: f.csv: 2 faults were passed over; load with store_rejects=true lists them\n",
     ),
+    passed(["convert", "to=sqlite", "ignore_errors=true"], "csvload: f.csv: 2 faults were passed over; store_rejects=true lists them\n"),
     passed(["sniff"], ""),
     Case(
         ["batch", "f.csv,f.csv", "ignore_errors=true"],
@@ -211,5 +218,4 @@ PASSED = [
 
 def main() -> None:
     check(FIRST + PASSED)
-    check_packed()
     check_wide()
