@@ -18,6 +18,7 @@ NEEDED = ("bash", "awk")
 FILES = {f"f{number}.csv": f'id,note\n{number},a\n2,"say ""x"", y"\n' for number in range(1, 5)}
 FILES["f5.csv"] = 'id,note\nx,"c\nd"\n4\n5,"l\n1"\n'
 FILES["f 6.csv"] = "id,note\n7,z\n"
+FILES["f7.v1.CSV"] = "id,note\n8,w\n"
 REJECTS = [["f5.csv", "CAST", 'x,"c\nd"'], ["f5.csv", "MISSING COLUMNS", "4"]]
 
 # A program that writes five bytes of f3.csv and is killed, the first time that it converts it.
@@ -67,7 +68,8 @@ def matches_batch(folder: pathlib.Path, into: pathlib.Path, names: list[str], *w
     """The rows of all results are those of one batch."""
     files = ",".join(str(folder / name) for name in names)
     expected = subprocess.run([os.environ["CSVLOAD"], "batch", files, "ignore_errors=true", *words], capture_output=True, text=True, check=True).stdout
-    rows = [[cell.replace("\n", "\\n") for cell in row] for name in names for row in rows_of(into / name)[1:]]
+    results = [into / f"{pathlib.Path(name).stem}.csv" for name in names]
+    rows = [[cell.replace("\n", "\\n") for cell in row] for result in results for row in rows_of(result)[1:]]
     batch = [line.split("|")[1:] for line in expected.splitlines() if line.startswith("row|")]
     assert rows == batch, (rows, batch)
 
@@ -99,6 +101,12 @@ def refused(made: str, environment: dict[str, str]) -> None:
         (folder / "no", into, environment, f"'{folder}/no' is no folder"),
         (folder, into, environment, f"'{folder}/rejects.csv' would have the name of the gathered rejects: rename it, or use to=sqlite"),
     ]
+    both = f"'{folder}/a.CSV' and '{folder}/a.csv' would have one result: rename one"
+    gathered = f"'{folder}/rejects.CSV' would have the name of the gathered rejects: rename it, or use to=sqlite"
+    for name, line in (("a.CSV", both), ("rejects.CSV", gathered)):
+        pathlib.Path(folder, name).write_text("id,v\n3,c\n")
+        assert convert(folder, into, environment) == (2, f"many.sh: {line}\n") and not into.exists(), line
+        pathlib.Path(folder, name).unlink()
     for source, target, given, line in cases:
         if "rejects.csv" in line:
             pathlib.Path(folder, "rejects.csv").write_text("id,v\n3,c\nx,d\n")
@@ -155,11 +163,12 @@ def main() -> None:
             by = "a stand-in for GNU parallel"
             executable(tools / "parallel", STAND_IN)
         environment = dict(os.environ, CSVLOAD=str(killed), PROGRAM=os.environ["CSVLOAD"], KILLED=f"{made}/killed", PARALLEL="--jobs 2", HOME=made)
-        environment["PATH"] = f"{tools}:{environment['PATH']}"
+        environment |= {"PATH": f"{tools}:{environment['PATH']}", "LC_ALL": "C"}
 
         status, said = convert(folder, into, environment)
         assert status == 1 and "f3.csv' failed" in said, (status, said)
-        assert sorted(path.name for path in into.glob("f*.csv")) == sorted(set(FILES) - {"f3.csv"}), list(into.iterdir())
+        results = [f"{pathlib.Path(name).stem}.csv" for name in FILES if name != "f3.csv"]
+        assert sorted(path.name for path in into.glob("f*.csv")) == sorted(results), list(into.iterdir())
         status, said = convert(folder, into, environment)
         assert status == 0, (status, said)
 

@@ -3,11 +3,11 @@
 #
 #     many.sh FOLDER INTO [NAME=VALUE]..
 #
-# Of each FOLDER/NAME.csv comes INTO/NAME.csv, or with to=sqlite INTO/NAME.db, read as `csvload batch` reads it: under what is
-# found in the first file, by the order of the names. Faulty rows are left out and stand in INTO/rejects.csv, the file's name
-# before each. A result stands in INTO only when it is whole: what failed is named at the end, with status 1, and the next call
-# does that and what is newer than its result; of another FOLDER, under other words, or where other ones fit the first file, it
-# does all anew. With status 2 nothing was begun.
+# Of each FOLDER/NAME.csv or NAME.CSV comes INTO/NAME.csv, or with to=sqlite INTO/NAME.db, read as `csvload batch` reads it: under
+# what is found in the first file, by the order of the names. Faulty rows are left out and stand in INTO/rejects.csv, the file's
+# name before each. A result stands in INTO only when it is whole: what failed is named at the end, with status 1, and the next
+# call does that and what is newer than its result; of another FOLDER, under other words, or where other ones fit the first file,
+# it does all anew. With status 2 nothing was begun.
 # Further words are csvload's own options. Options of GNU parallel, as --jobs 4 or --sshlogin one,other, stand in the variable
 # PARALLEL; other machines must see both folders under the same names. CSVLOAD names the program.
 set -euo pipefail
@@ -46,11 +46,19 @@ for word in "$@"; do
     if [ "$word" = to=sqlite ]; then ending=db; fi
 done
 
-files=("$folder"/*.csv)
-if [ ! -e "${files[0]}" ]; then refuse "'$folder' has no file NAME.csv"; fi
-if [ $ending = csv ] && [ -e "$folder/rejects.csv" ]; then
-    refuse "'$folder/rejects.csv' would have the name of the gathered rejects: rename it, or use to=sqlite"
-fi
+files=("$folder"/*.[cC][sS][vV])
+if [ ! -e "${files[0]}" ]; then refuse "'$folder' has no file NAME.csv or NAME.CSV"; fi
+# Whether each result has a name of its own.
+declare -A file_of
+for file in "${files[@]}"; do
+    result=/${file##*/}
+    result=${result%.*}.$ending
+    if [ "$result" = /rejects.csv ]; then
+        refuse "'$file' would have the name of the gathered rejects: rename it, or use to=sqlite"
+    fi
+    if [ -n "${file_of[$result]-}" ]; then refuse "'${file_of[$result]}' and '$file' would have one result: rename one"; fi
+    file_of[$result]=$file
+done
 
 # The words that fix what was found in the first file stand in one line, cut at bars, and shown with backslashes.
 explained=$("$csvload" sniff "${files[0]}" explain=true "${reading[@]}") || true
@@ -85,7 +93,8 @@ kept=
 if [ -e "$into/.rejects/words" ]; then kept=$(<"$into/.rejects/words"); fi
 todo=()
 for file in "${files[@]}"; do
-    result=$into/$(basename "$file" .csv).$ending
+    result=$into/${file##*/}
+    result=${result%.*}.$ending
     if [ "$kept" != "$made_with" ] || [ ! -e "$result" ] || [ "$file" -nt "$result" ]; then
         rm -f "$result"
         todo+=("$file")
@@ -108,8 +117,8 @@ fi
 status=0
 : > "$into/rejects.csv.part"
 for file in "${files[@]}"; do
-    name=$(basename "$file")
-    if [ ! -e "$into/${name%.csv}.$ending" ]; then
+    name=${file##*/}
+    if [ ! -e "$into/${name%.*}.$ending" ]; then
         echo "${0##*/}: '$file' failed" >&2
         status=1
         continue
@@ -118,7 +127,7 @@ for file in "${files[@]}"; do
     NAME=$name LC_ALL=C awk -v first="$([ -s "$into/rejects.csv.part" ] || echo yes)" '
         BEGIN { name = ENVIRON["NAME"]; if (name ~ /[",\r\n]/) { gsub(/"/, "\"\"", name); name = "\"" name "\"" } }
         NR == 1 { if (first) print "file," $0; next }
-        { print (open ? "" : name ",") $0; if (gsub(/"/, "&") % 2) open = !open }' "$into/.rejects/${name%.csv}.csv" >> "$into/rejects.csv.part"
+        { print (open ? "" : name ",") $0; if (gsub(/"/, "&") % 2) open = !open }' "$into/.rejects/${name%.*}.csv" >> "$into/rejects.csv.part"
 done
 mv "$into/rejects.csv.part" "$into/rejects.csv"
 exit $status
