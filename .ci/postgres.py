@@ -10,6 +10,7 @@ import json
 import os
 import pathlib
 import pwd
+import shlex
 import shutil
 import signal
 import subprocess
@@ -122,6 +123,35 @@ def check_hard_rows(server: Server) -> None:
     same(server.ask(f"{columns} ORDER BY ordinal_position"), [[name, kind] for name, kind in zip(hard_rows.NAMES, KINDS)])
 
 
+def check_copy(server: Server) -> None:
+    """The rows of a report are COPY's text: a table that is filled by them alone has the rows of the one above."""
+    same(server.psql('CREATE TABLE copied AS SELECT * FROM sales."Hard rows" LIMIT 0').returncode, 0)
+    options = " ".join(map(shlex.quote, hard_rows.OPTIONS))
+    line = f"""set -o pipefail; "$CSVLOAD" load 'hard rows.csv' {options} | sed -n 's/^row|//p' |
+        psql -X -q -v ON_ERROR_STOP=1 -c "COPY copied FROM STDIN (DELIMITER '|')" """
+    environment = server.environment | {"PGCLIENTENCODING": "UTF8"}
+    done = subprocess.run(["bash", "-c", line], cwd=server.folder, env=environment, capture_output=True, timeout=LIMIT)
+    same((done.returncode, done.stdout, done.stderr), (0, b"", b""))
+    same(server.ask("SELECT count(*) FROM copied"), [[len(hard_rows.ROWS)]])
+    for one, other in (("copied", 'sales."Hard rows"'), ('sales."Hard rows"', "copied")):
+        same(server.ask(f"SELECT * FROM {one} EXCEPT ALL SELECT * FROM {other}"), [])
+
+
+def check_long_names(server: Server) -> None:
+    """Names that agree in the 63 bytes that PostgreSQL keeps get a suffix, also where a name before them has it already."""
+    header = ["x" * 63 + "a", "x" * 61 + "_1", "x" * 63 + "b", "x" * 63, "é" * 40 + "a", "é" * 40 + "b"]
+    kept = ["x" * 63, "x" * 61 + "_1", "x" * 61 + "_2", "x" * 61 + "_3", "é" * 31, "é" * 30 + "_1"]
+    (server.folder / "long.csv").write_text(",".join(header) + "\n1,2,3,4,5,6\n")
+    status, said = server.load("long.csv", "long_names", [])
+    told = [line for line in said.splitlines() if line.startswith("postgres.sh")]
+    suffixes = [(3, 2), (4, 3), (6, 1)]
+    same(told, [f"postgres.sh: column {place} gets the suffix _{number}: an earlier name has the same first bytes" for place, number in suffixes])
+    same((status, said.count("NOTICE")), (0, 2))
+    columns = "SELECT column_name FROM information_schema.columns WHERE table_name = 'long_names' ORDER BY ordinal_position"
+    same(server.ask(columns), [[name] for name in kept])
+    same(server.ask("SELECT * FROM long_names"), [[1, 2, 3, 4, 5, 6]])
+
+
 def check_rejects(server: Server) -> None:
     """Rejects stand in their tables, each load's under the next number, after the hard rows' 0."""
     file = EXAMPLES / "scores.csv"
@@ -181,7 +211,7 @@ def main() -> None:
         server = Server(programs, pathlib.Path(name))
         try:
             server.wait()
-            for check in (check_hard_rows, check_rejects, check_others, check_mistakes):
+            for check in (check_hard_rows, check_copy, check_rejects, check_others, check_long_names, check_mistakes):
                 check(server)
         finally:
             server.stop()

@@ -15,7 +15,7 @@ if [ $# -lt 2 ]; then
 fi
 file=$1 table=$2
 shift 2
-awk_bytes() { TABLE=$table LC_ALL=C awk "$1"; }
+awk_bytes() { TABLE=$table SCRIPT=${0##*/} LC_ALL=C awk "$1"; }
 
 if ! awk_bytes 'BEGIN {
     name = "([A-Za-z_\200-\377][A-Za-z0-9_$\200-\377]*|\"([^\"]|\"\")+\")"
@@ -28,15 +28,35 @@ fi
 # What the report shows with backslashes and bars is COPY's text format with the delimiter |, and its \N is COPY's null. Only a
 # report that is whole, and so ends with the number of errors, is committed.
 "${CSVLOAD:-csvload}" load "$file" store_rejects=true "$@" | awk_bytes '
-    function name_of(line,   parts, count, i, name) {
+    function name_of(line, column,   parts, count, i, name) {
         sub(/^column\|[0-9]*\|[A-Z]*\|/, "", line)
         count = split(line, parts, /\\\\/)
         for (i = 1; i <= count; i++) {
             gsub(/\\\|/, "|", parts[i]); gsub(/\\n/, "\n", parts[i]); gsub(/\\r/, "\r", parts[i]); gsub(/\\t/, "\t", parts[i])
-            gsub(/"/, "\"\"", parts[i])
             name = name (i > 1 ? "\\" : "") parts[i]
         }
+        name = free_name(name, column)
+        gsub(/"/, "\"\"", name)
         return "\"" name "\""
+    }
+    # The first bytes of a name, as many as PostgreSQL keeps at most and no part of a character.
+    function clipped(name, most) {
+        if (length(name) <= most) return name
+        while (substr(name, most + 1, 1) ~ more) most--
+        return substr(name, 1, most)
+    }
+    # PostgreSQL keeps 63 bytes of a name: one that it would take for one before it gets a suffix, and that is told.
+    function free_name(name, column,   kept, number, suffix) {
+        kept = clipped(name, 63)
+        while (kept in taken) {
+            number++
+            suffix = "_" number
+            kept = clipped(name, 63 - length(suffix)) suffix
+        }
+        taken[kept] = 1
+        if (!number) return name
+        print ENVIRON["SCRIPT"] ": column " column " gets the suffix " suffix ": an earlier name has the same first bytes" > "/dev/stderr"
+        return kept
     }
     # PostgreSQL keeps no text that is not UTF-8: bytes that are not are shown in hexadecimal.
     function readable(line,   shown) {
@@ -79,7 +99,7 @@ fi
     }
     /^row\|/ { make_table(); begin_copy(table); print substr($0, 5); next }
     /^error\|/ { begin_copy("csvload_errors"); print readable(substr($0, 7)); next }
-    $1 == "column" { columns = columns (columns == "" ? "" : ", ") name_of($0) " " type[$3] }
+    $1 == "column" { columns = columns (columns == "" ? "" : ", ") name_of($0, $2 + 1) " " type[$3] }
     $1 == "rows" { make_table() }
     $1 == "scan" { begin_copy("csvload_scans"); print substr($0, 6) }
     $1 == "errors" {
