@@ -17,7 +17,7 @@ _csvload_files() {
 }
 
 _csvload() {
-    local word=${COMP_WORDS[COMP_CWORD]}
+    local word=${COMP_WORDS[COMP_CWORD]} types='BOOLEAN BIGINT DATE TIME TIMESTAMP VARCHAR'
     COMPREPLY=()
     if [ "$COMP_CWORD" -eq 1 ]; then
         mapfile -t COMPREPLY < <(compgen -W 'load summary convert rejects batch sniff make help version --help --version' -- "$word")
@@ -38,13 +38,12 @@ _csvload() {
                 return
             fi
             compopt -o nospace
-            # '=' breaks words in most settings of readline, so a value may stand as a word of its own.
-            local name=$word value=$word
-            case $word in
-                =) name=${COMP_WORDS[COMP_CWORD - 1]} value= ;;
-                *=*) name=${word%%=*} value=${word#*=} ;;
-                *) [ "${COMP_WORDS[COMP_CWORD - 1]}" = = ] && name=${COMP_WORDS[COMP_CWORD - 2]} || name= ;;
-            esac
+            # '=' and ':' break words in most settings of readline, so a value may stand as words of its own.
+            local whole=$word place=$COMP_CWORD name= value=$word
+            while ((place > 2)) && [[ ${COMP_WORDS[place]} == [=:] || ${COMP_WORDS[place - 1]} == [=:] ]]; do
+                place=$((place - 1)) whole=${COMP_WORDS[place]}$whole
+            done
+            [[ $whole == *=* ]] && name=${whole%%=*} value=${whole#*=}
             case $name in
                 header | all_varchar | allow_quoted_nulls | null_padding | ignore_errors | store_rejects | pipeline | stats | explain | same_header)
                     mapfile -t COMPREPLY < <(compgen -W 'true false' -- "$value")
@@ -56,7 +55,13 @@ _csvload() {
                     # Of several types the last one is completed.
                     local before=
                     [[ $value == *,* ]] && before=${value%,*},
-                    mapfile -t COMPREPLY < <(compgen -P "$before" -W 'BOOLEAN BIGINT DATE TIME TIMESTAMP VARCHAR' -- "${value##*,}")
+                    mapfile -t COMPREPLY < <(compgen -P "$before" -W "$types" -- "${value##*,}")
+                    ;;
+                column_types)
+                    # The type behind the last pair's name, which is a word of its own where ':' breaks words.
+                    local pairs=${value%:*}:
+                    [[ $COMP_WORDBREAKS == *:* ]] && pairs=
+                    [[ ${value##*,} == *:* ]] && mapfile -t COMPREPLY < <(compgen -P "$pairs" -W "$types" -- "${value##*:}")
                     ;;
                 '')
                     local own=
