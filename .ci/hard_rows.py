@@ -1,5 +1,7 @@
 """Rows that are hard to hand on, each in all types: as Python has them, and as CSV. And a loader that ends too early."""
 
+from __future__ import annotations
+
 import pathlib
 
 TYPES = ["BIGINT", "BOOLEAN", "DATE", "TIME", "TIMESTAMP", "VARCHAR"]

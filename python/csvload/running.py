@@ -1,0 +1,77 @@
+"""Calls of the program: options as its words, and its refusals as an exception."""
+
+import os
+import subprocess
+from collections.abc import Mapping, Sequence
+from typing import Union
+
+Option = Union[bool, int, str, Sequence[str], Mapping[str, str]]
+
+# What the answer is, and where it goes, isn't the caller's to choose.
+FIXED = ("to", "table", "output")
+
+
+class Refused(Exception):
+    """The file wasn't read: `status` is the program's own, the text what it told a person.
+
+    >>> import csvload
+    >>> try:
+    ...     csvload.read("absent.csv")
+    ... except csvload.Refused as refused:
+    ...     print(refused.status, refused)
+    2 csvload: 'absent.csv' isn't there
+    """
+
+    def __init__(self, status: int, text: str) -> None:
+        super().__init__(status, text)
+        self.status = status
+        self.text = text
+
+    def __str__(self) -> str:
+        return self.text
+
+
+def value_of(name: str, value: Option) -> str:
+    """An option's value as the program has it.
+
+    >>> value_of("header", True), value_of("skip", 3), value_of("delim", ";")
+    ('true', '3', ';')
+    >>> value_of("nulls", ["", "NA"]), value_of("column_types", {"zip": "VARCHAR", "n": "BIGINT"})
+    (',NA', 'zip:VARCHAR,n:BIGINT')
+    """
+    if isinstance(value, bool):
+        return "true" if value else "false"
+    if isinstance(value, (int, str)):
+        return str(value)
+    if isinstance(value, Mapping):
+        parts = [f"{key}:{kind}" for key, kind in value.items()]
+    elif isinstance(value, Sequence) and not isinstance(value, bytes):
+        parts = [str(part) for part in value]
+    else:
+        raise TypeError(f"{name} takes a truth value, a number, a text, a list or a dict, not {value!r}")
+    # The program cuts there, so this would be another list.
+    for part in parts:
+        if "," in part:
+            raise ValueError(f"{name} can't have a comma in a part of its list: {part!r}")
+    return ",".join(parts)
+
+
+def words_of(options: Mapping[str, Option]) -> list[str]:
+    """The options as words, in their order."""
+    for name in options:
+        if name in FIXED:
+            raise TypeError(f"{name} is no option here")
+    return [f"{name}={value_of(name, value)}" for name, value in options.items()]
+
+
+def write_database(file: Union[str, os.PathLike[str]], options: Mapping[str, Option], place: str) -> None:
+    """Has the program write its SQLite database of a file at a place; else raises Refused."""
+    name = os.fspath(file)
+    # Else it could be an option's name; - alone is standard input.
+    if name.startswith("-") and name != "-":
+        name = f"./{name}"
+    command = [os.environ.get("CSVLOAD", "csvload"), "convert", name, "to=sqlite", *words_of(options)]
+    with open(place, "wb") as database:
+        run = subprocess.run(command, stdout=database, stderr=subprocess.PIPE)
+    if run.returncode:
+        raise Refused(run.returncode, run.stderr.decode("utf-8", "replace").strip())
