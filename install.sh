@@ -1,5 +1,6 @@
 #!/bin/sh
-# Makes the proved build of csvload, and installs it with its man page, completions, and the script that fills a PostgreSQL table.
+# Makes the proved build of csvload, and installs it with its man page, rules, completions, and the scripts that fill a PostgreSQL
+# table and convert a folder of files. In an unpacked package the program is made, and only copied.
 #
 #     install.sh               into ~/.local
 #     PREFIX=DIR install.sh    into DIR
@@ -19,23 +20,37 @@ case ${1-} in
         exit 1
         ;;
     *)
-        sed -n '2,7s/^# \{0,1\}//p' install.sh >&2
+        sed -n '2,8s/^# \{0,1\}//p' install.sh >&2
         exit 1
         ;;
 esac
 
-(cd crates/csvload && rt run -- --version >/dev/null)
+# Each file with the place below PREFIX that it goes to.
+if [ -e bin/csvload ]; then
+    files=$(find bin share -type f | sed 's/.*/&:&/')
+else
+    (cd crates/csvload && rt run -- --version >/dev/null)
+    files='crates/csvload/out/csvload:bin/csvload
+        examples/postgres.sh:bin/csvload-postgres
+        examples/many.sh:bin/csvload-many
+        docs/csvload.1:share/man/man1/csvload.1
+        docs/FORMAT.md:share/doc/csvload/FORMAT.md
+        completions/csvload.bash:share/bash-completion/completions/csvload
+        completions/_csvload:share/zsh/site-functions/_csvload'
+fi
 
 each() {
-    "$1" crates/csvload/out/csvload bin/csvload 755
-    "$1" examples/postgres.sh bin/csvload-postgres 755
-    "$1" docs/csvload.1 share/man/man1/csvload.1 644
-    "$1" completions/csvload.bash share/bash-completion/completions/csvload 644
-    "$1" completions/_csvload share/zsh/site-functions/_csvload 644
+    for file in $files; do
+        "$1" "${file%:*}" "${file#*:}"
+    done
 }
 copy() {
+    case $2 in
+        bin/*) mode=755 ;;
+        *) mode=644 ;;
+    esac
     mkdir -p "$(dirname "$prefix/$2")"
-    install -m "$3" "$1" "$prefix/$2.new"
+    install -m "$mode" "$1" "$prefix/$2.new"
 }
 rename() {
     mv -f "$prefix/$2.new" "$prefix/$2"

@@ -15,11 +15,22 @@ TOP = pathlib.Path(__file__).parent.parent
 COPIED = {
     "bin/csvload": 0o755,
     "bin/csvload-postgres": 0o755,
+    "bin/csvload-many": 0o755,
     "share/man/man1/csvload.1": 0o644,
+    "share/doc/csvload/FORMAT.md": 0o644,
     "share/bash-completion/completions/csvload": 0o644,
     "share/zsh/site-functions/_csvload": 0o644,
 }
-SOURCES = ("install.sh", "examples/postgres.sh", "docs/csvload.1", "completions/csvload.bash", "completions/_csvload")
+# In the order of the files that are copied; in place of the first one the program is made.
+SOURCES = (
+    "install.sh",
+    "examples/postgres.sh",
+    "examples/many.sh",
+    "docs/csvload.1",
+    "docs/FORMAT.md",
+    "completions/csvload.bash",
+    "completions/_csvload",
+)
 PROVES = "#!/bin/sh\nmkdir -p out && echo new >out/csvload\n"
 PROVES_NOT = "#!/bin/sh\nexit 1\n"
 # More than each of the files, but for the one that shall not fit.
