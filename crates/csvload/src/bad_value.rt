@@ -2,7 +2,9 @@
 use crate::excerpt::shortened;
 use crate::given::{command_word, count_of_pieces, name_of, subject, value_of};
 use csv_source::NoMemory;
-use load_options::limits::{COLUMN_LIMIT, COLUMN_TYPES_LIMIT, NULLS_LIMIT, TABLE_NAME_LIMIT};
+use load_options::limits::{
+    COLUMN_LIMIT, COLUMN_TYPES_LIMIT, NULLS_LIMIT, OUTPUT_NAME_LIMIT, TABLE_NAME_LIMIT,
+};
 use load_options::{Allowed, NumberRange, allowed_texts, command_of, word_at};
 use std::alloc::Global;
 use std::collections::HashSet;
@@ -147,6 +149,8 @@ fn taken_by(alloc: Global, word: &str, allowed: Allowed) -> Result<String, NoMem
         Allowed::TableName => format!(in alloc;
             "{name} takes a name of 1 to {TABLE_NAME_LIMIT} bytes that isn't reject_scans or reject_errors and doesn't begin with sqlite_"
         )?,
+        Allowed::FileName =>
+            format!(in alloc; "{name} takes a file's name of 1 to {OUTPUT_NAME_LIMIT} bytes")?,
     };
     Ok(line)
 }

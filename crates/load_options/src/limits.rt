@@ -77,6 +77,9 @@ pub const ROWS: NumberRange = NumberRange {
 /// The most bytes of the name of a database's table.
 pub const TABLE_NAME_LIMIT: usize = 1_000;
 
+/// The most bytes of the name of the file that is written.
+pub const OUTPUT_NAME_LIMIT: usize = 4_096;
+
 /// The most columns whose types are given by name.
 pub const COLUMN_TYPES_LIMIT: usize = 1_000;
 
