@@ -51,7 +51,17 @@ _csvload() {
                 to)
                     mapfile -t COMPREPLY < <(compgen -W 'csv sqlite' -- "$value")
                     ;;
-                types)
+                output)
+                    # The file's name is a word of its own, or stands behind the option's.
+                    compopt +o nospace
+                    if [[ $word == *=* && $word != = ]]; then
+                        _csvload_files output= "${value//\\/}"
+                    else
+                        _csvload_files '' "$value"
+                    fi
+                    return
+                    ;;
+                types | dtypes)
                     # Of several types the last one is completed.
                     local before=
                     [[ $value == *,* ]] && before=${value%,*},
@@ -70,7 +80,7 @@ _csvload() {
                     mapfile -t COMPREPLY < <(compgen -W "delim= quote= escape= comment= header= skip= nullstr= nulls=
                         allow_quoted_nulls= all_varchar= names= types= column_types= sample_size= null_padding=
                         ignore_errors= store_rejects= rejects_limit= max_errors= max_line_size= max_input= threads=
-                        range_size= pipeline= stats= to= table= $own" -- "$word")
+                        range_size= pipeline= stats= to= table= output= $own" -- "$word")
                     ;;
             esac
             [[ $word == *=* && -n $name && $word != = ]] && COMPREPLY=("${COMPREPLY[@]/#/$name=}")
