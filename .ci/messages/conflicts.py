@@ -40,6 +40,13 @@ CONFLICTS = [
     ),
     conflict(["max_errors=5"], 2, "max_errors=5 wants ignore_errors=true or store_rejects=true"),
     conflict(["names=a,b", "types=DATE"], 3, "names gives 2 and types 1: as many of each are wanted"),
+    conflict(["column_names=a,b", "dtypes=DATE"], 3, "names gives 2 and types 1: as many of each are wanted"),
+    conflict(["quote=;", "sep=;"], 3, "sep=; and quote=; are the same character"),
+    conflict(
+        ["quote=", "escape=x", "comment=x"],
+        3,
+        "escape=x and quote= can't stand together: an escape wants a quote",
+    ),
     conflict(["quote=;", "delim=;"], 3, "delim=; and quote=; are the same character"),
     conflict(["escape=;", "delim=;"], 3, "delim=; and escape=; are the same character"),
     conflict(["comment=,", "delim=,"], 3, "comment=, and delim=, are the same character"),

@@ -1,6 +1,6 @@
 // What the words give.
 use csv_source::NoMemory;
-use load_options::word_at;
+use load_options::{option_named, word_at};
 use std::alloc::Global;
 
 /// The file, the number or the names of files.
@@ -45,11 +45,12 @@ pub fn value_of(word: &str) -> &str {
     }
 }
 
-/// The first word that gives the option of that name.
+/// The first word that gives the option of that name, by this one or a second one.
 pub fn word_giving<'a>(words: &'a [String], name: &str) -> Option<&'a str> {
+    let option = option_named(name.as_bytes());
     for word in words.iter().skip(FIRST_OPTION) {
         let word = word.as_str();
-        if word.contains('=') && name_of(word) == name {
+        if word.contains('=') && option_named(name_of(word).as_bytes()) == option {
             return Some(word);
         }
     }
