@@ -36,9 +36,9 @@ fn lists_have_at_most_1000_pieces(rt: HostRuntime) {
     }
 }
 
-/// Whether a table may have a name of so many bytes.
-fn may_name(rt: &impl Abort, alloc: Global, length: usize) -> bool {
-    let mut line = String::from_str(alloc, "convert f.csv to=sqlite table=").expect(rt, "memory");
+/// Whether a line is accepted with a name of so many bytes behind it.
+fn may_name(rt: &impl Abort, alloc: Global, front: &str, length: usize) -> bool {
+    let mut line = String::from_str(alloc, front).expect(rt, "memory");
     for _ in 0..length {
         line.push_str("n").expect(rt, "memory");
     }
@@ -47,17 +47,26 @@ fn may_name(rt: &impl Abort, alloc: Global, length: usize) -> bool {
 
 #[test]
 fn a_table_name_has_at_most_1000_bytes(rt: HostRuntime) {
-    assert!(rt; may_name(&rt, rt.alloc(), TABLE_NAME_LIMIT));
-    assert!(rt; !may_name(&rt, rt.alloc(), 1_001));
+    let front = "convert f.csv to=sqlite table=";
+    assert!(rt; may_name(&rt, rt.alloc(), front, TABLE_NAME_LIMIT));
+    assert!(rt; !may_name(&rt, rt.alloc(), front, 1_001));
+}
+
+#[test]
+fn an_output_name_has_at_most_4096_bytes(rt: HostRuntime) {
+    let front = "load f.csv output=";
+    assert!(rt; may_name(&rt, rt.alloc(), front, 4_096));
+    assert!(rt; !may_name(&rt, rt.alloc(), front, 4_097));
 }
 
 /// Words that no line can hold, the rule that they break first, and the place of the word.
 struct Refused(&'static str, WordRule, usize);
 
-const REFUSED: [Refused; 3] = [
+const REFUSED: [Refused; 4] = [
     Refused("", WordRule::NoCommand, 0),
     Refused("load f.csv comment=\n", WordRule::BadValue, 2),
     Refused("convert f.csv table=a\0b", WordRule::BadValue, 2),
+    Refused("convert f.csv output=a\0b", WordRule::BadValue, 2),
 ];
 
 fn is_refused(rt: &impl Abort, alloc: Global, row: &Refused) -> bool {

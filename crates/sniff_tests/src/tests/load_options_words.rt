@@ -57,6 +57,7 @@ fn has_defaults(options: &Options) -> bool {
 fn options_that_are_not_given_have_defaults(rt: HostRuntime) {
     let request = accepted(&rt, rt.alloc(), "summary f.csv");
     assert!(rt; has_defaults(&request.options));
+    assert!(rt; request.output.is_none());
 }
 
 const GIVEN: &str =
@@ -76,6 +77,12 @@ fn are_numbers_given(options: &Options) -> bool {
         && options.skip == 1_000_000
         && options.range_size == 67_108_864
         && options.pipeline
+}
+
+#[test]
+fn words_name_the_file_that_is_written(rt: HostRuntime) {
+    let output = accepted(&rt, rt.alloc(), "summary f.csv output=a=b").output;
+    assert!(rt; matches!(&output, Some(name) if name.as_slice() == b"a=b".as_slice()));
 }
 
 #[test]
