@@ -1,10 +1,11 @@
 -- The laws of the one-pass reading, which is the part of the whole data, whose place never parts a CR LF pair.
-use Rattle.std.specs.Prelude.{◌≡◌, ℕ, ◌+◌, ◌<◌, true, false, List, [], ◌∷◌, ◌++◌, length, take, drop, map, flat_map, codes, None, Some, option_map, slice_get}
+use Rattle.std.specs.Prelude.{◌≡◌, ℕ, ◌+◌, ◌<◌, true, false, List, [], ◌∷◌, ◌++◌, length, take, drop, map, flat_map, codes, Option, None, Some, option_map, slice_get, Ok}
 use Rattle.byte_classes.specs.Dialect.{Marks}
 use Rattle.byte_classes.specs.LineEnds.{line_ends}
 use Rattle.quote_automaton.specs.declared.state.State.TheVariants.{RowStart}
 use Rattle.value_types.specs.Datum.{Datum}
 use Rattle.load_options.specs.declared.options.Options.{Options}
+use Rattle.load_options.specs.declared.options.Request.{Request}
 use Rattle.reject_book.specs.declared.reject.Reject.{Reject}
 use Rattle.reject_book.specs.declared.reject.Schema.{Schema}
 use Rattle.reject_book.specs.Judging.{judge_of}
@@ -29,7 +30,7 @@ use Rattle.csv_sniffer.specs.NamedTypes.{missing_name, type_given}
 use Rattle.value_types.specs.declared.types.ColumnType.{ColumnType}
 use Rattle.loader_reply.specs.declared.answering.Answer.{Answer}
 use Rattle.loader_reply.specs.Batch.{batch_error, batch_of, batch_stats, found_in_first}
-use Rattle.loader_reply.specs.Reply.{Reply, inputs_reply}
+use Rattle.loader_reply.specs.Reply.{Reply, inputs_reply, words_reply}
 use Rattle.loader_reply.specs.Reading.{schema_of, verdicts, reading, file_reading, table_rows, faults, keep_of, ending_error, stats_of}
 
 -- the part of all data of the file of a number, which begin at a place of the input
@@ -116,6 +117,11 @@ NamedHasSameReply = (answer : Answer) (o : Options) (names : List (List ℕ)) (t
     map (type_given o.column_types) s.names ≡ map Some types → missing_name o.column_types s.names ≡ None →
     (found_in_first (listed o types) inputs).header ≡ s.header →
     inputs_reply answer (listed o types) names taps inputs ≡ inputs_reply answer o names taps inputs
+
+-- the reply doesn't hang on the file to which it is written
+abbrev pub OutputChangesNoReply : Type 0
+OutputChangesNoReply = (request : Request) (output : Option (List ℕ)) (words : List (List ℕ)) (taps : List Seen) (opened : List (Option (List ℕ))) →
+    words_reply (Ok (record request { output = output })) words taps opened ≡ words_reply (Ok request) words taps opened
 
 -- ---- rejects as CSV
 

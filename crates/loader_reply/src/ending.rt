@@ -1,7 +1,8 @@
 // How a run ended, with what was found out.
-ghost use Rattle.std.specs.Prelude.{◌≡◌, ◌≢◌, IfOk};
+ghost use Rattle.std.specs.Prelude.{◌≡◌, ◌≢◌, ◌==◌, IfOk};
 ghost use Rattle.report_text.specs.declared.outcome.Outcome.TheVariants as outcomes;
-ghost use Rattle.loader_reply.specs.Ending.{ending_code, ending_of, ending_status};
+ghost use Rattle.loader_reply.specs.Ending.{ending_code, ending_of, ending_status, status_code};
+ghost use Rattle.loader_reply.specs.declared.status.Status.TheVariants as statuses;
 
 use crate::status::Status;
 use csv_sniffer::Sniffed;
@@ -90,6 +91,23 @@ impl Ending {
             Ending::NoMemory => Status::NoMemory,
             Ending::TooLarge(_) => Status::TooLarge,
             Ending::TooManyFaults(_) => Status::TooManyFaults,
+        }
+    }
+
+    /// Whether the exit status is 0.
+    pub fn is_answered(&self) -> bool
+        ensures { result ≡ (ending_code self.now == status_code statuses.Answered) }
+    {
+        match self {
+            Ending::Answered(..) => true,
+            Ending::Refused(_)
+            | Ending::ReadFault
+            | Ending::FirstError(..)
+            | Ending::Mismatch(_)
+            | Ending::WriteFault
+            | Ending::NoMemory
+            | Ending::TooLarge(_)
+            | Ending::TooManyFaults(_) => false,
         }
     }
 

@@ -1,6 +1,6 @@
 //! Laws over the definitions.
 ghost use Rattle.loader_reply.specs.Loading.{FoundInHead};
-ghost use Rattle.loader_reply.specs.Laws.{VerdictsAreOfPart, OwnReading, OneIsReadAlone, ReadingIsOfPart, ReadingIsOfGroups, StopFindsFirstFault, JoinedFaultsAreRaised, RowsAreOfEach, FixedHasSameReply, NamedHasSameReply, RejectsAreShown};
+ghost use Rattle.loader_reply.specs.Laws.{VerdictsAreOfPart, OwnReading, OneIsReadAlone, ReadingIsOfPart, ReadingIsOfGroups, StopFindsFirstFault, JoinedFaultsAreRaised, RowsAreOfEach, FixedHasSameReply, NamedHasSameReply, OutputChangesNoReply, RejectsAreShown};
 
 /// The verdicts of data that don't begin between a CR and its LF are those of the part of all data.
 pub fn verdicts_are_of_part()
@@ -56,6 +56,11 @@ pub fn fixed_has_same_reply()
 /// taken alike.
 pub fn named_has_same_reply()
     ensures { NamedHasSameReply }
+{}
+
+/// A request has the same reply, status, text and all, whatever file it is to be written to.
+pub fn output_changes_no_reply()
+    ensures { OutputChangesNoReply }
 {}
 
 /// The fields of a reject as CSV are those of its line in the report, which shows them.

@@ -48,13 +48,15 @@ impl Reply {
         Ok(Reply::new(ending?, ReplyText::Whole(text?)))
     }
 
-    /// Writes the text, and answers how the run ended: as this reply says, or with a write fault.
+    /// Writes the text, and answers how the run ended: as this reply says, or with a write fault. The sink is told before
+    /// whether the text is that of status 0.
     pub fn write<R: Threads + Sync, K: Sink>(self, rt: &R, sink: &mut K) -> Ending
         ensures ending { IsEndingOf self result }
         ensures written { IsWritten self (K.faults sink.old) (K.faults sink.new) (K.taken sink.old) (K.taken sink.new) (ending_code result) }
         ensures count { K.faults sink.old ≤ K.faults sink.new }
     {
         let Reply { ending, text } = self;
+        sink.begin(ending.is_answered());
         match text.write(rt, sink) {
             Ok(()) => ending,
             Err(Failed) => Ending::WriteFault,
