@@ -275,7 +275,7 @@ def check_first_error() -> None:
 
 def check_terminal(folder: pathlib.Path) -> None:
     """Nothing is written to a terminal, and nothing is read."""
-    said = b"csvload: a database isn't written to a terminal: put > FILE.db behind\n"
+    said = b"csvload: a database isn't written to a terminal: name a file by output=FILE.db\n"
     ours, theirs = pty.openpty()
     try:
         command = [PROGRAM, "convert", folder / "absent.csv", "to=sqlite"]

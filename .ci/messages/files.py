@@ -29,7 +29,7 @@ TYPES = ["types=BIGINT,VARCHAR", "header=true"]
 
 PASSING = ["ignore_errors=true", "max_errors=0"]
 
-SAME_WORDS = "csvload rejects lists them, with the same words but max_errors, to and table"
+SAME_WORDS = "csvload rejects lists them, with the same words but max_errors, to, table and output"
 
 LONG = "l" * 70 + ".csv"
 

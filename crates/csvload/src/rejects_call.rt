@@ -5,19 +5,21 @@ use crate::shell::{shell_file, shell_word};
 use csv_source::NoMemory;
 use std::alloc::Global;
 
-/// Options that `rejects` refuses, or that say how many faults may be and which are kept. All others have a say in which
-/// faults there are, or in how the work is done.
-const LEFT_OUT: [&str; 6] = [
+/// Options that `rejects` refuses, or that say how many faults may be, which are kept, and where the text goes. All others
+/// have a say in which faults there are, or in how the work is done.
+const LEFT_OUT: [&str; 7] = [
     "ignore_errors",
     "store_rejects",
     "rejects_limit",
     "max_errors",
     "to",
     "table",
+    "output",
 ];
 
 /// The call where the words can't stand in the line.
-const UNTOLD: &str = "csvload rejects lists them, with the same words but max_errors, to and table";
+const UNTOLD: &str =
+    "csvload rejects lists them, with the same words but max_errors, to, table and output";
 
 /// The other words, each behind a space and as a shell takes it; none where one isn't seen as it is, or they are long.
 fn kept_words(alloc: Global, words: &[String]) -> Result<Option<String>, NoMemory> {

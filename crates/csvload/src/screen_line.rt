@@ -58,8 +58,8 @@ impl<'a, R: Eprint, K: Sink> BehindLine<'a, R, K> {
     }
 
     /// The sink behind the line.
-    pub fn sink(&self) -> &K {
-        &self.sink
+    pub fn into_sink(self) -> K {
+        self.sink
     }
 }
 
@@ -71,5 +71,9 @@ impl<'a, R: Eprint, K: Sink> Sink for BehindLine<'a, R, K> {
     fn write(&mut self, piece: &[u8]) -> Result<usize, Failed> {
         self.line.end();
         self.sink.write(piece)
+    }
+
+    fn begin(&mut self, is_whole: bool) {
+        self.sink.begin(is_whole);
     }
 }

@@ -46,7 +46,7 @@ fn asks_version(words: &[String]) -> bool
 }
 
 /// The text of the program's own that words ask for.
-fn own_text(words: &[String]) -> Option<OwnText>
+pub fn own_text(words: &[String]) -> Option<OwnText>
     ensures { result ≡ own_text (texts words.now) }
 {
     if asks_help(words) {

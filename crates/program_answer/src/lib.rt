@@ -6,4 +6,4 @@ mod answering;
 pub mod help;
 mod loading;
 
-pub use answering::answer;
+pub use answering::{OwnText, answer, own_text};
