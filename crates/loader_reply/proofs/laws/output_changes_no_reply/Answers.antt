@@ -3,6 +3,7 @@ use Rattle.column_taps.specs.Seen.{Seen}
 use Rattle.load_options.specs.declared.options.Command.TheVariants.{Load, Sniff, Summary, Convert, Rejects, Batch, Make}
 use Rattle.load_options.specs.declared.options.Command.{Command}
 use Rattle.load_options.specs.declared.options.Request.{Request}
+use Rattle.load_options.specs.Texts.{word_at}
 use Rattle.loader_reply.specs.Reply.{request_reply}
 use Rattle.loader_reply.proofs.laws.output_changes_no_reply.Goals as goal
 
@@ -17,4 +18,4 @@ module _ (request : Request) (output : Option (List ℕ)) (word : List ℕ) (tap
   same Make = refl
 
 pub returns : goal.returns
-returns c = λ request output words taps opened. same request output _ taps opened request.command
+returns c = λ request output words taps opened. same request output (word_at words 1) taps opened request.command
