@@ -14,6 +14,9 @@ use std::marker::Model;
 /// The most bytes of one read.
 const PIECE: usize = 262_144;
 
+/// The most bytes of a read into no memory yet, which has to be initialised: most small inputs end in them.
+const FIRST_PIECE: usize = 16_384;
+
 /// Bytes that were read. They come straight into memory that is initialised once, and used again where bytes were dropped.
 #[derive(Drop)]
 pub struct Buffer {
@@ -108,7 +111,12 @@ impl Buffer {
         ensures count { S.faults source.old ≤ S.faults source.new }
         ensures failed { result ≡ Err stops.Failed → Rose (S.faults source.old) (S.faults source.new) }
     {
-        let to = self.filled + missing.min(PIECE as u64) as usize;
+        let piece = if self.memory.is_empty() {
+            FIRST_PIECE
+        } else {
+            PIECE
+        };
+        let to = self.filled + missing.min(piece as u64) as usize;
         let most = self.filled.saturating_add(missing as usize);
         let Ok(()) = extend(&mut self.memory, to, most) else {
             return Err(ReadStop::NoMemory);
