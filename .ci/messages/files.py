@@ -56,6 +56,7 @@ OVER = [
     over(["summary", "comment=#", "nullstr=it's"], r"csvload rejects a.csv 'comment=#' 'nullstr=it'\''s' lists them"),
     over(["convert", *TYPES, "to=sqlite", "table=t", "store_rejects=true"], "csvload rejects a.csv types=BIGINT,VARCHAR header=true lists them"),
     over(["load", "store_rejects=true", "rejects_limit=1"], "csvload rejects a.csv lists them"),
+    over(["load", "output=o.txt", "sep=,"], "csvload rejects a.csv sep=, lists them"),
     over(["load"], "csvload rejects 'a b; touch pwn.csv' lists them", "a b; touch pwn.csv"),
     over(["load"], r"csvload rejects './-it'\''s.csv' lists them", "-it's.csv", "'-it's.csv'"),
     over(["load"], f"csvload rejects {LONG} lists them", LONG),

@@ -8,6 +8,16 @@ HELP = " (see csvload --help)"
 
 NO_TYPE = "is no type (in upper case: BOOLEAN, BIGINT, DATE, TIME, TIMESTAMP, VARCHAR)"
 
+# Other names of types, of DuckDB's manual.
+MEANT = {
+    "BOOLEAN": ["boolean", "bool", "logical"],
+    "BIGINT": ["bigint", "int8", "long"],
+    "DATE": ["date"],
+    "TIME": ["time"],
+    "TIMESTAMP": ["timestamp", "datetime"],
+    "VARCHAR": ["varchar", "char", "bpchar", "text", "string"],
+}
+
 
 def refused(words: list[str], rule: str, index: int, line: str) -> Case:
     """Words whose word of that place breaks a rule, and what is said."""
@@ -38,7 +48,10 @@ COMMANDS = [
 ]
 
 OPTIONS = [
-    option("sep=,", "BadOption", "'sep=,' gives no option of load" + HELP),
+    option("colour=red", "BadOption", "'colour=red' gives no option of load" + HELP),
+    option("--sep=,", "BadOption", "'--sep=,' is no option: one is written sep=VALUE, without dashes"),
+    refused(["make", "7", "output=x"], "BadOption", 2, "'output=x' gives no option of make" + HELP),
+    refused(["make", "7", "sep=,"], "BadOption", 2, "'sep=,' gives no option of make" + HELP),
     option("header", "BadOption", "'header' is no option: one is written header=VALUE"),
     option("--delim=,", "BadOption", "'--delim=,' is no option: one is written delim=VALUE, without dashes"),
     option("--frob", "BadOption", "'--frob' is no option: one is written NAME=VALUE"),
@@ -77,6 +90,24 @@ OPTIONS = [
         3,
         "'header=false' gives an option that 'header=true' gave before",
     ),
+    refused(
+        ["load", "f.csv", "delim=,", "sep=;"], "Repeated", 3, "'sep=;' gives an option that 'delim=,' gave before"
+    ),
+    refused(
+        ["load", "f.csv", "sep=,", "delimiter=;"], "Repeated", 3, "'delimiter=;' gives an option that 'sep=,' gave before"
+    ),
+    refused(
+        ["load", "f.csv", "dtypes=DATE", "types=DATE"],
+        "Repeated",
+        3,
+        "'types=DATE' gives an option that 'dtypes=DATE' gave before",
+    ),
+    refused(
+        ["load", "f.csv", "names=a", "column_names=a"],
+        "Repeated",
+        3,
+        "'column_names=a' gives an option that 'names=a' gave before",
+    ),
 ]
 
 VALUES = [
@@ -89,17 +120,25 @@ VALUES = [
     ),
     option("delim=ab", "BadValue", r"'delim=ab' is refused: delim takes one ASCII character, or \t for a tab"),
     option("quote=ab", "BadValue", "'quote=ab' is refused: quote takes one ASCII character, or nothing"),
-    option("types=" + "BIGINT," * 49 + "bigint", "BadValue", "'bigint' " + NO_TYPE),
+    option("delimiter=ab", "BadValue", r"'delimiter=ab' is refused: delimiter takes one ASCII character, or \t for a tab"),
+    option("types=" + "BIGINT," * 49 + "bigint", "BadValue", "'bigint' is no type: BIGINT is meant"),
+    option("types=BIGINT," + "x" * 70, "BadValue", f"'{'x' * 60}..' {NO_TYPE}"),
+    option("dtypes=", "BadValue", "'' " + NO_TYPE),
     option("types=BIGINT, DATE", "BadValue", "' DATE' " + NO_TYPE),
     option("names=a,b,a", "BadValue", "'a' stands twice in names"),
     option("names=a,,b", "BadValue", "name 2 of names is empty"),
+    option("column_names=a,b,", "BadValue", "name 3 of column_names is empty"),
     option("column_types=zip", "BadValue", "'zip' gives no type: column_types takes NAME:TYPE, cut at each comma"),
-    option("column_types=zip:TEXT", "BadValue", "'TEXT' " + NO_TYPE),
-    option("column_types=a:b:date", "BadValue", "'date' " + NO_TYPE),
+    option("column_types=zip:TEXT", "BadValue", "'TEXT' is no type: VARCHAR is meant"),
+    option("column_types=a:b:date", "BadValue", "'date' is no type: DATE is meant"),
+    option("column_types=zip:", "BadValue", "'' " + NO_TYPE),
     option("column_types=:DATE", "BadValue", "name 1 of column_types is empty"),
     option("column_types=zip:DATE,zip:DATE", "BadValue", "'zip' stands twice in column_types"),
-    option("nulls=", "BadValue", "nulls takes texts, cut at each comma: nullstr= gives the empty one alone"),
+    option("nulls=", "BadValue", "'nulls=' is refused: nulls takes texts, cut at each comma; nullstr= gives the empty one alone"),
     option("nulls=NA,,NA", "BadValue", "'NA' stands twice in nulls"),
+    option("nulls=" + "," * 1000, "BadValue", "nulls takes 1000 at most"),
+    option("output=", "BadValue", "'output=' is refused: output takes a file's name of 1 to 4096 bytes"),
+    option("output=-", "BadValue", "'output=-' is refused: output takes a file's name of 1 to 4096 bytes"),
     option("max_errors=-1", "BadValue", "'max_errors=-1' is refused: max_errors takes a number from 0 to 4294967295"),
     option("to=db", "BadValue", "'to=db' is refused: to takes csv or sqlite"),
     option(
@@ -111,6 +150,13 @@ VALUES = [
     option("header=" + "x" * 70, "BadValue", f"'header={'x' * 53}..' is refused: header takes true or false"),
 ]
 
+
+TYPES = [
+    option(f"types={name}", "BadValue", f"'{name}' is no type: {meant} is meant")
+    for meant, names in MEANT.items()
+    for lower in names
+    for name in {lower, lower.upper(), lower.title()} - {meant}
+]
 
 # All but the last are good.
 MANY = (
@@ -134,5 +180,5 @@ def check_own_texts() -> None:
 
 
 def main() -> None:
-    check(COMMANDS + OPTIONS + VALUES + MANY_WORDS)
+    check(COMMANDS + OPTIONS + VALUES + TYPES + MANY_WORDS)
     check_own_texts()

@@ -1,19 +1,66 @@
 // Values that an option doesn't allow.
 use crate::excerpt::shortened;
-use crate::given::{command_word, count_of_pieces, name_of, subject, value_of};
+use crate::given::{command_word, name_of, subject, value_of};
 use csv_source::NoMemory;
-use load_options::limits::{
-    COLUMN_LIMIT, COLUMN_TYPES_LIMIT, NULLS_LIMIT, OUTPUT_NAME_LIMIT, TABLE_NAME_LIMIT,
-};
-use load_options::{Allowed, NumberRange, allowed_texts, command_of, word_at};
+use load_options::limits::{OUTPUT_NAME_LIMIT, TABLE_NAME_LIMIT};
+use load_options::{Allowed, NumberRange, Reason, allowed_texts, command_of, why_refused, word_at};
 use std::alloc::Global;
-use std::collections::HashSet;
-
-/// The types' names, as they are written.
-const TYPES: [&str; 6] = ["BOOLEAN", "BIGINT", "DATE", "TIME", "TIMESTAMP", "VARCHAR"];
+use value_types::{ColumnType, type_name};
 
 /// The manual's "all rows", which is no number here.
 const ALL_ROWS: &str = "sample_size=-1";
+
+/// Other names of types, in lower case (of DuckDB's manual, "Data Types"), and the types that are meant.
+const MEANT: [(&str, ColumnType); 15] = [
+    ("boolean", ColumnType::Boolean),
+    ("bool", ColumnType::Boolean),
+    ("logical", ColumnType::Boolean),
+    ("bigint", ColumnType::Bigint),
+    ("int8", ColumnType::Bigint),
+    ("long", ColumnType::Bigint),
+    ("date", ColumnType::Date),
+    ("time", ColumnType::Time),
+    ("timestamp", ColumnType::Timestamp),
+    ("datetime", ColumnType::Timestamp),
+    ("varchar", ColumnType::Varchar),
+    ("char", ColumnType::Varchar),
+    ("bpchar", ColumnType::Varchar),
+    ("text", ColumnType::Varchar),
+    ("string", ColumnType::Varchar),
+];
+
+/// That a text is no type, and which is meant.
+fn no_type(alloc: Global, text: &str) -> Result<String, NoMemory> {
+    let shown = shortened(alloc, text.as_bytes())?;
+    for (name, meant) in MEANT.iter() {
+        if text.eq_ignore_ascii_case(name) {
+            let meant = type_name(*meant);
+            return Ok(format!(in alloc; "'{shown}' is no type: {meant} is meant")?);
+        }
+    }
+    Ok(format!(in alloc;
+        "'{shown}' is no type (in upper case: BOOLEAN, BIGINT, DATE, TIME, TIMESTAMP, VARCHAR)"
+    )?)
+}
+
+/// That a piece has no type: of a pair behind its last colon.
+fn piece_without_type(
+    alloc: Global,
+    name: &str,
+    piece: &str,
+    allowed: Allowed,
+) -> Result<String, NoMemory> {
+    match (allowed, piece.rsplit_once(':')) {
+        (Allowed::ColumnTypes, Some((_, ty))) => no_type(alloc, ty),
+        (Allowed::ColumnTypes, None) => {
+            let pair = shortened(alloc, piece.as_bytes())?;
+            Ok(format!(in alloc;
+                "'{pair}' gives no type: {name} takes NAME:TYPE, cut at each comma"
+            )?)
+        }
+        _ => no_type(alloc, piece),
+    }
+}
 
 /// What a number may be.
 fn number_taken(alloc: Global, word: &str, range: NumberRange) -> Result<String, NoMemory> {
@@ -27,111 +74,6 @@ fn number_taken(alloc: Global, word: &str, range: NumberRange) -> Result<String,
     Ok(line)
 }
 
-/// The first name that comes twice.
-fn doubled(alloc: Global, value: &str) -> Result<&str, NoMemory> {
-    let mut earlier = HashSet::new(alloc);
-    for name in value.split(',') {
-        if !earlier.insert(name)? {
-            return Ok(name);
-        }
-    }
-    Ok("")
-}
-
-/// Why names are refused.
-fn bad_names(alloc: Global, word: &str) -> Result<String, NoMemory> {
-    let (name, value) = (name_of(word), value_of(word));
-    if count_of_pieces(value) > COLUMN_LIMIT {
-        return Ok(format!(in alloc; "{name} takes {COLUMN_LIMIT} names at most")?);
-    }
-    if let Some(place) = value.split(',').position(|piece| piece.is_empty()) {
-        let number = place.saturating_add(1);
-        return Ok(format!(in alloc; "name {number} of {name} is empty")?);
-    }
-    let twice = shortened(alloc, doubled(alloc, value)?.as_bytes())?;
-    Ok(format!(in alloc; "'{twice}' stands twice in {name}")?)
-}
-
-/// That a text is no type.
-fn no_type(alloc: Global, text: &str) -> Result<String, NoMemory> {
-    let text = shortened(alloc, text.as_bytes())?;
-    Ok(format!(in alloc;
-        "'{text}' is no type (in upper case: BOOLEAN, BIGINT, DATE, TIME, TIMESTAMP, VARCHAR)"
-    )?)
-}
-
-/// Why types are refused: the first that is none.
-fn bad_types(alloc: Global, word: &str) -> Result<String, NoMemory> {
-    let bad = value_of(word)
-        .split(',')
-        .find(|piece| !TYPES.contains(piece));
-    match bad {
-        Some(piece) => no_type(alloc, piece),
-        None => Ok(format!(in alloc; "types takes {COLUMN_LIMIT} types at most")?),
-    }
-}
-
-/// The name and the type of a pair; it is cut at its last colon.
-fn cut_pair(pair: &str) -> (&str, &str) {
-    pair.rsplit_once(':').unwrap_or((pair, ""))
-}
-
-/// The first name of pairs that comes twice.
-fn doubled_name(alloc: Global, value: &str) -> Result<&str, NoMemory> {
-    let mut earlier = HashSet::new(alloc);
-    for pair in value.split(',') {
-        let name = cut_pair(pair).0;
-        if !earlier.insert(name)? {
-            return Ok(name);
-        }
-    }
-    Ok("")
-}
-
-/// Why pairs of a name and a type are refused.
-fn bad_column_types(alloc: Global, word: &str) -> Result<String, NoMemory> {
-    let (name, value) = (name_of(word), value_of(word));
-    if count_of_pieces(value) > COLUMN_TYPES_LIMIT {
-        return Ok(format!(in alloc; "{name} takes {COLUMN_TYPES_LIMIT} columns at most")?);
-    }
-    let bad = value
-        .split(',')
-        .find(|pair| !TYPES.contains(&cut_pair(pair).1));
-    if let Some(pair) = bad {
-        if pair.contains(':') {
-            return no_type(alloc, cut_pair(pair).1);
-        }
-        let pair = shortened(alloc, pair.as_bytes())?;
-        return Ok(format!(in alloc;
-            "'{pair}' gives no type: {name} takes NAME:TYPE, cut at each comma"
-        )?);
-    }
-    if let Some(place) = value
-        .split(',')
-        .position(|pair| cut_pair(pair).0.is_empty())
-    {
-        let number = place.saturating_add(1);
-        return Ok(format!(in alloc; "name {number} of {name} is empty")?);
-    }
-    let twice = shortened(alloc, doubled_name(alloc, value)?.as_bytes())?;
-    Ok(format!(in alloc; "'{twice}' stands twice in {name}")?)
-}
-
-/// Why texts for null are refused.
-fn bad_nulls(alloc: Global, word: &str) -> Result<String, NoMemory> {
-    let (name, value) = (name_of(word), value_of(word));
-    if value.is_empty() {
-        return Ok(format!(in alloc;
-            "{name} takes texts, cut at each comma: nullstr= gives the empty one alone"
-        )?);
-    }
-    if count_of_pieces(value) > NULLS_LIMIT {
-        return Ok(format!(in alloc; "{name} takes {NULLS_LIMIT} texts at most")?);
-    }
-    let twice = shortened(alloc, doubled(alloc, value)?.as_bytes())?;
-    Ok(format!(in alloc; "'{twice}' stands twice in {name}")?)
-}
-
 /// What an option takes.
 fn taken_by(alloc: Global, word: &str, allowed: Allowed) -> Result<String, NoMemory> {
     let name = name_of(word);
@@ -140,17 +82,57 @@ fn taken_by(alloc: Global, word: &str, allowed: Allowed) -> Result<String, NoMem
         Allowed::Choice => format!(in alloc; "{name} takes one ASCII character, or nothing")?,
         Allowed::Truth => format!(in alloc; "{name} takes true or false")?,
         Allowed::Number(range) => number_taken(alloc, word, range)?,
-        Allowed::Text => format!(in alloc; "{name} takes any text")?,
-        Allowed::Names => bad_names(alloc, word)?,
-        Allowed::Types => bad_types(alloc, word)?,
-        Allowed::ColumnTypes => bad_column_types(alloc, word)?,
-        Allowed::Nulls => bad_nulls(alloc, word)?,
+        Allowed::Text | Allowed::Names | Allowed::Types | Allowed::ColumnTypes => {
+            format!(in alloc; "{name} takes another text")?
+        }
+        Allowed::Nulls => format!(in alloc;
+            "{name} takes texts, cut at each comma; nullstr= gives the empty one alone"
+        )?,
         Allowed::Format => format!(in alloc; "{name} takes csv or sqlite")?,
         Allowed::TableName => format!(in alloc;
             "{name} takes a name of 1 to {TABLE_NAME_LIMIT} bytes that isn't reject_scans or reject_errors and doesn't begin with sqlite_"
         )?,
-        Allowed::FileName =>
-            format!(in alloc; "{name} takes a file's name of 1 to {OUTPUT_NAME_LIMIT} bytes")?,
+        Allowed::FileName => format!(in alloc;
+            "{name} takes a file's name of 1 to {OUTPUT_NAME_LIMIT} bytes"
+        )?,
+    };
+    Ok(line)
+}
+
+/// The piece of that place of a word's value, which is cut at each comma.
+fn piece_of(word: &str, place: usize) -> &str {
+    value_of(word).split(',').nth(place).unwrap_or("")
+}
+
+/// The text that comes twice: of a pair its name.
+fn doubled(piece: &str, allowed: Allowed) -> &str {
+    match (allowed, piece.rsplit_once(':')) {
+        (Allowed::ColumnTypes, Some((name, _))) => name,
+        _ => piece,
+    }
+}
+
+/// Why a word's value is refused.
+fn told(alloc: Global, word: &str, allowed: Allowed, reason: Reason) -> Result<String, NoMemory> {
+    let name = name_of(word);
+    let line = match reason {
+        Reason::TooMany(most) => format!(in alloc; "{name} takes {most} at most")?,
+        Reason::Empty(place) => {
+            let number = place.saturating_add(1);
+            format!(in alloc; "name {number} of {name} is empty")?
+        }
+        Reason::Twice(place) => {
+            let text = shortened(alloc, doubled(piece_of(word, place), allowed).as_bytes())?;
+            format!(in alloc; "'{text}' stands twice in {name}")?
+        }
+        Reason::NoType(place) => piece_without_type(alloc, name, piece_of(word, place), allowed)?,
+        Reason::Other => {
+            let (shown, taken) = (
+                shortened(alloc, word.as_bytes())?,
+                taken_by(alloc, word, allowed)?,
+            );
+            format!(in alloc; "'{shown}' is refused: {taken}")?
+        }
     };
     Ok(line)
 }
@@ -179,17 +161,11 @@ pub fn bad_value(alloc: Global, words: &[String], index: usize) -> Result<String
         Some(command) => allowed_texts(command, name_of(word).as_bytes()),
         None => None,
     };
-    let shown_word = shortened(alloc, word.as_bytes())?;
-    let line = match allowed {
-        Some(Allowed::Names) => bad_names(alloc, word)?,
-        Some(Allowed::Types) => bad_types(alloc, word)?,
-        Some(Allowed::ColumnTypes) => bad_column_types(alloc, word)?,
-        Some(Allowed::Nulls) => bad_nulls(alloc, word)?,
-        Some(allowed) => {
-            let taken = taken_by(alloc, word, allowed)?;
-            format!(in alloc; "'{shown_word}' is refused: {taken}")?
+    if let Some(allowed) = allowed {
+        if let Some(reason) = why_refused(alloc, allowed, value_of(word).as_bytes())? {
+            return told(alloc, word, allowed, reason);
         }
-        None => format!(in alloc; "'{shown_word}' gives a value that isn't allowed there")?,
-    };
-    Ok(line)
+    }
+    let shown = shortened(alloc, word.as_bytes())?;
+    Ok(format!(in alloc; "'{shown}' gives a value that isn't allowed there")?)
 }

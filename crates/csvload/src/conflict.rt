@@ -80,9 +80,12 @@ fn told(alloc: Global, words: &[String], conflict: Conflict) -> Result<String, N
 
 /// The conflict for which words are refused.
 fn found(alloc: Global, words: &[String]) -> Result<Option<Conflict>, NoMemory> {
-    match (command_of(command_word(words)), words) {
-        (Some(command), [_, _, options @ ..]) => conflict_behind(alloc, command, options),
-        _ => Ok(None),
+    let [command, _, options @ ..] = words else {
+        return Ok(None);
+    };
+    match command_of(command.as_str()) {
+        Some(command) => conflict_behind(alloc, command, options),
+        None => Ok(None),
     }
 }
 

@@ -2,10 +2,12 @@
 ghost use Rattle.std.specs.Prelude.{◌≡◌, ◌<◌, [], IfOk, IfSome, length, map};
 ghost use Rattle.std.specs.Path.{rfind_below};
 ghost use Rattle.load_options.specs.ColumnTypes.{are_typed_columns, cut_pair, pair_name, pair_type, typed_columns};
+ghost use Rattle.load_options.specs.Reasons.{Explains, SaysOfPairs};
 
 use crate::limits::COLUMN_TYPES_LIMIT;
-use crate::lists::{are_names, name_types, types_of};
+use crate::lists::{names_reason, types_of, untyped_at};
 use crate::options::ColumnTypes;
+use crate::reason::Reason;
 use csv_source::NoMemory;
 use std::alloc::Global;
 use value_types::{Names, Types};
@@ -47,18 +49,17 @@ fn cut_pairs(alloc: Global, pairs: &Names) -> Result<(Names, Names), NoMemory>
     Ok((names, types))
 }
 
-/// Whether these are pairs of a name and a type: not too many, each of a type, their names as names of columns are.
-pub fn are_typed_columns(alloc: Global, pairs: &Names) -> Result<bool, NoMemory>
-    ensures { IfOk result (λ good. good ≡ are_typed_columns pairs.now) }
+/// Why these can't be pairs of a name and a type: not too many, each of a type, their names as names of columns are.
+pub fn pairs_reason(alloc: Global, pairs: &Names) -> Result<Option<Reason>, NoMemory>
+    ensures { IfOk result (λ reason. Explains reason (are_typed_columns pairs.now) (SaysOfPairs pairs.now)) }
 {
     if pairs.len() > COLUMN_TYPES_LIMIT {
-        return Ok(false);
+        return Ok(Some(Reason::TooMany(COLUMN_TYPES_LIMIT)));
     }
     let (names, types) = cut_pairs(alloc, pairs)?;
-    if name_types(&types) {
-        are_names(alloc, &names)
-    } else {
-        Ok(false)
+    match untyped_at(&types) {
+        Some(place) => Ok(Some(Reason::NoType(place))),
+        None => names_reason(alloc, &names),
     }
 }
 

@@ -1,27 +1,32 @@
 //! Words that give the texts that stand for null.
 ghost use Rattle.std.specs.Prelude.{◌≡◌, ◌∷◌, [], IfOk, drop, map, string_bytes};
 ghost use Rattle.load_options.specs.Nulls.{is_null_list, null_texts};
-ghost use Rattle.load_options.specs.Texts.{word_at};
+ghost use Rattle.load_options.specs.Reasons.{Explains, SaysOfNames};
+ghost use Rattle.load_options.specs.Texts.{pieces_at, word_at};
 
 use crate::given::given;
 use crate::limits::NULLS_LIMIT;
-use crate::lists::{are_different, pieces_of};
+use crate::lists::{pieces_of, twice_at};
+use crate::reason::Reason;
 use csv_source::NoMemory;
 use std::alloc::Global;
 use value_types::Names;
 
-/// Whether a text is a list of texts for null. The empty text alone is none: that is what `nullstr` gives.
-pub fn is_null_list(alloc: Global, text: &[u8]) -> Result<bool, NoMemory>
-    ensures { IfOk result (λ good. good ≡ is_null_list text.now) }
+/// Why a text is no list of texts for null. The empty text alone is none: that is what `nullstr` gives.
+pub fn nulls_reason(alloc: Global, text: &[u8]) -> Result<Option<Reason>, NoMemory>
+    ensures { IfOk result (λ reason. Explains reason (is_null_list text.now) (SaysOfNames (pieces_at 44 text.now))) }
 {
     if text.is_empty() {
-        return Ok(false);
+        return Ok(Some(Reason::Other));
     }
     let texts = pieces_of(alloc, text)?;
     if texts.len() > NULLS_LIMIT {
-        return Ok(false);
+        return Ok(Some(Reason::TooMany(NULLS_LIMIT)));
     }
-    are_different(alloc, &texts)
+    match twice_at(alloc, &texts)? {
+        Some(place) => Ok(Some(Reason::Twice(place))),
+        None => Ok(None),
+    }
 }
 
 /// The texts that stand for null: those of `nulls`, else the one of `nullstr`, else the empty one.
