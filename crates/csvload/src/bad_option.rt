@@ -2,10 +2,19 @@
 use crate::excerpt::shortened;
 use crate::given::{FIRST_OPTION, command_word, name_of, subject};
 use crate::glyphs::shown;
-use crate::shell::{shell_files, shell_word};
+use crate::shell::{shell_file, shell_files, shell_word};
 use csv_source::NoMemory;
 use load_options::{allowed_texts, command_of, word_at};
 use std::alloc::Global;
+use std::fs;
+use std::rt::Files;
+
+/// Options that one command takes alone.
+const OF_ONE: [(&str, &str); 3] = [
+    ("explain", "sniff"),
+    ("same_header", "batch"),
+    ("rows", "make"),
+];
 
 /// Whether the command has an option of that name.
 fn is_option(words: &[String], name: &str) -> bool {
@@ -27,16 +36,51 @@ fn file_is_behind(words: &[String], index: usize) -> bool {
         && !word_at(words, index).contains('=')
 }
 
-/// Why a word with dashes gives no option, where it would give one without them.
+/// The command that takes the option of that name alone.
+fn only_command(name: &str) -> Option<&'static str> {
+    for (option, command) in &OF_ONE {
+        if *option == name {
+            return Some(command);
+        }
+    }
+    None
+}
+
+/// Why a word with dashes gives no option.
 fn dashed(alloc: Global, words: &[String], word: &str) -> Result<Option<String>, NoMemory> {
     let bare = word.trim_start_matches('-');
-    if bare == word || !is_option(words, name_of(bare)) {
+    let name = name_of(bare);
+    if bare == word || name.is_empty() {
         return Ok(None);
     }
-    let (word, name) = (shortened(alloc, word.as_bytes())?, name_of(bare));
-    Ok(Some(format!(in alloc;
-        "'{word}' is no option: one is written {name}=VALUE, without dashes"
-    )?))
+    if is_option(words, name) {
+        let word = shortened(alloc, word.as_bytes())?;
+        return Ok(Some(format!(in alloc;
+            "'{word}' is no option: one is written {name}=VALUE, without dashes"
+        )?));
+    }
+    if !word.contains('=') {
+        return Ok(None);
+    }
+    let (name, command) = (shortened(alloc, name.as_bytes())?, command_word(words));
+    Ok(Some(format!(in alloc; "no option has dashes, and {name} is none of {command}")?))
+}
+
+/// The words from the file on as one name with spaces, as far as a file of it is there.
+fn spaced_name<R: Files>(
+    rt: &R,
+    alloc: Global,
+    words: &[String],
+) -> Result<Option<String>, NoMemory> {
+    let mut name = String::from_str(alloc, subject(words))?;
+    for word in words.iter().skip(FIRST_OPTION) {
+        name.push(' ')?;
+        name.push_str(word.as_str())?;
+        if fs::metadata(rt, name.as_str()).is_ok() {
+            return shell_file(alloc, name.as_str());
+        }
+    }
+    Ok(None)
 }
 
 /// The file and the word behind it as the files of a batch, where they may be meant so.
@@ -52,7 +96,15 @@ fn both_files(alloc: Global, words: &[String], word: &str) -> Result<Option<Stri
 }
 
 /// Why a word without `=` gives no option.
-fn lone_word(alloc: Global, words: &[String], word: &str) -> Result<String, NoMemory> {
+fn lone_word<R: Files>(
+    rt: &R,
+    alloc: Global,
+    words: &[String],
+    word: &str,
+) -> Result<String, NoMemory> {
+    if let Some(name) = spaced_name(rt, alloc, words)? {
+        return Ok(format!(in alloc; "a name with spaces stands in quotes: {name}")?);
+    }
     let shown_word = shortened(alloc, word.as_bytes())?;
     if is_option(words, word) {
         return Ok(format!(in alloc; "'{shown_word}' is no option: one is written {word}=VALUE")?);
@@ -66,8 +118,23 @@ fn lone_word(alloc: Global, words: &[String], word: &str) -> Result<String, NoMe
     Ok(line)
 }
 
+/// Why a word with `=` gives no option.
+fn other_option(alloc: Global, words: &[String], word: &str) -> Result<String, NoMemory> {
+    if let Some(command) = only_command(name_of(word.trim_start_matches('-'))) {
+        let name = name_of(word.trim_start_matches('-'));
+        return Ok(format!(in alloc; "{name} is an option of {command}")?);
+    }
+    let (command, word) = (command_word(words), shortened(alloc, word.as_bytes())?);
+    Ok(format!(in alloc; "'{word}' gives no option of {command} (see csvload --help)")?)
+}
+
 /// Why a word gives no option.
-pub fn bad_option(alloc: Global, words: &[String], index: usize) -> Result<String, NoMemory> {
+pub fn bad_option<R: Files>(
+    rt: &R,
+    alloc: Global,
+    words: &[String],
+    index: usize,
+) -> Result<String, NoMemory> {
     let word = word_at(words, index);
     if file_is_behind(words, index) {
         let taken = shown(alloc, subject(words))?;
@@ -77,8 +144,7 @@ pub fn bad_option(alloc: Global, words: &[String], index: usize) -> Result<Strin
         return Ok(line);
     }
     if !word.contains('=') {
-        return lone_word(alloc, words, word);
+        return lone_word(rt, alloc, words, word);
     }
-    let (command, word) = (command_word(words), shortened(alloc, word.as_bytes())?);
-    Ok(format!(in alloc; "'{word}' gives no option of {command} (see csvload --help)")?)
+    other_option(alloc, words, word)
 }

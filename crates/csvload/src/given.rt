@@ -1,7 +1,8 @@
 // What the words give.
 use csv_source::NoMemory;
-use load_options::{option_named, word_at};
+use load_options::{NumberRange, option_named, word_at};
 use std::alloc::Global;
+use value_types::number_within;
 
 /// The file, the number or the names of files.
 const SUBJECT: usize = 1;
@@ -73,4 +74,14 @@ pub fn is_given(words: &[String], name: &str) -> bool {
 /// How many pieces a value has that is cut at commas.
 pub fn count_of_pieces(value: &str) -> usize {
     value.split(',').count()
+}
+
+/// The number that an option has: the one that is given, or its default.
+pub fn number_given(words: &[String], name: &str, range: NumberRange) -> u64 {
+    match word_giving(words, name) {
+        Some(word) => {
+            number_within(value_of(word).as_bytes(), range.most).unwrap_or(range.default)
+        }
+        None => range.default,
+    }
 }

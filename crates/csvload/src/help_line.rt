@@ -1,59 +1,46 @@
 // What helps against a first fault.
-use crate::given::{command_word, count_of_pieces, gives, is_given, value_of, word_giving};
+use crate::again::{call, content_line};
+use crate::cast_help::cast_help;
+use crate::content::{Content, NOT_UTF8};
+use crate::given::{count_of_pieces, gives, is_given, number_given, value_of, word_giving};
 use crate::shell::shell_file;
-use csv_source::{NoMemory, STANDARD_INPUT};
+use csv_sniffer::Sniffed;
+use csv_source::NoMemory;
+use load_options::limits::MAX_LINE_SIZE;
 use reject_book::{ErrorKind, Reject};
 use std::alloc::Global;
 
 /// What helps against any fault.
 const ANY: &str = "ignore_errors=true passes over faulty rows, store_rejects=true lists them";
 
-/// How a file is packed or encoded, where the program doesn't read it so.
+/// The byte that ends a text of DOS.
+const DOS_END: &[u8] = b"\x1a";
+
+/// Options that `sniff` doesn't take as they are given, or that it is given there.
+const NOT_OF_SNIFF: [&str; 4] = ["to", "table", "same_header", "explain"];
+
+/// A first fault, and what is known of the run that it ended.
 #[derive(Clone, Copy)]
-pub enum Packing {
-    Gzip,
-    Utf16,
-    /// Bytes that aren't UTF-8, taken for the commonest of such encodings.
-    NotUtf8,
+pub struct FirstFault<'a> {
+    pub words: &'a [String],
+    /// The name of the file, its first bytes, and how many bytes of it were read.
+    pub file: &'a str,
+    pub front: &'a [u8],
+    pub read: u64,
+    /// What was found in the first file.
+    pub sniffed: &'a Sniffed,
+    pub reject: &'a Reject,
 }
 
-impl Packing {
-    /// The packing that the first two bytes of a file tell.
-    pub fn of_front(front: &[u8]) -> Option<Packing> {
-        match front {
-            [0x1f, 0x8b] => Some(Packing::Gzip),
-            [0xff, 0xfe] | [0xfe, 0xff] => Some(Packing::Utf16),
-            _ => None,
-        }
-    }
-
-    /// What is wrong with the file, and the program that unpacks it.
-    fn told(self) -> (&'static str, &'static str) {
-        match self {
-            Packing::Gzip => ("is compressed", "gunzip -c"),
-            Packing::Utf16 => ("is UTF-16", "iconv -f UTF-16 -t UTF-8"),
-            Packing::NotUtf8 => ("isn't UTF-8", "iconv -f LATIN1 -t UTF-8"),
-        }
-    }
-}
-
-/// How a file that is packed is read.
-pub fn unpacking(
-    alloc: Global,
-    words: &[String],
-    file: &str,
-    packing: Packing,
-) -> Result<String, NoMemory> {
-    let (state, tool) = packing.told();
-    let command = command_word(words);
-    if file == STANDARD_INPUT {
-        return Ok(format!(in alloc; "the input {state}: {tool} | csvload {command} -")?);
-    }
-    let line = match shell_file(alloc, file)? {
-        Some(name) => format!(in alloc; "the file {state}: {tool} {name} | csvload {command} -")?,
-        None => format!(in alloc; "the file {state}")?,
-    };
-    Ok(line)
+/// What helps.
+#[derive(Drop)]
+enum Help {
+    /// This alone.
+    Alone(String),
+    /// This, or what helps against any fault.
+    Before(String),
+    /// What helps against any fault.
+    Any,
 }
 
 /// How many columns an option gives, where it is given.
@@ -76,45 +63,103 @@ fn given_columns(alloc: Global, words: &[String]) -> Result<Option<String>, NoMe
     }
 }
 
-/// Whether the types of the columns were found.
-fn are_found(words: &[String]) -> bool {
-    !is_given(words, "types") && !gives(words, "all_varchar", "true")
+impl FirstFault<'_> {
+    /// Whether a row has too few columns or too many.
+    fn is_of_columns(&self) -> bool {
+        matches!(
+            self.reject.error_type,
+            ErrorKind::MissingColumns | ErrorKind::TooManyColumns
+        )
+    }
+
+    /// Whether the file may have another header than the first one, and that may be told.
+    fn may_have_other_header(&self) -> bool {
+        0 < self.reject.file_id
+            && self.sniffed.header
+            && !gives(self.words, "same_header", "true")
+            && !is_given(self.words, "names")
+    }
+
+    /// Whether the row is the byte that ends a text of DOS, at the end of the file.
+    fn is_dos_end(&self) -> bool {
+        self.reject.csv_line.as_slice() == DOS_END
+            && self.read <= self.reject.line_byte_position.saturating_add(1)
+    }
+
+    /// Whether a larger row could be taken.
+    fn may_be_longer(&self) -> bool {
+        number_given(self.words, "max_line_size", MAX_LINE_SIZE) < MAX_LINE_SIZE.most
+    }
+
+    /// What tells how the rows are cut.
+    fn cutting(&self, alloc: Global) -> Result<Help, NoMemory> {
+        let Some(file) = shell_file(alloc, self.file)? else {
+            return Ok(Help::Any);
+        };
+        let begin = format!(in alloc; "csvload sniff {file} explain=true")?;
+        let call = call(alloc, self.words, begin.as_str(), &NOT_OF_SNIFF)?;
+        Ok(Help::Before(format!(in alloc; "{call} tells how the rows are cut")?))
+    }
+
+    /// What helps against faults of its kind.
+    fn by_kind(&self, alloc: Global) -> Result<Help, NoMemory> {
+        let text = match self.reject.error_type {
+            ErrorKind::MissingColumns if self.is_dos_end() => {
+                let line = format!(in alloc;
+                    "byte 1A ends a file of DOS; ignore_errors=true passes over it"
+                )?;
+                return Ok(Help::Alone(line));
+            }
+            ErrorKind::MissingColumns => {
+                format!(in alloc; "null_padding=true takes missing columns as null")?
+            }
+            ErrorKind::TooManyColumns => return self.cutting(alloc),
+            ErrorKind::LineSize if self.may_be_longer() => {
+                let most = MAX_LINE_SIZE.most;
+                format!(in alloc; "max_line_size={most} is the most")?
+            }
+            ErrorKind::Cast => match cast_help(alloc, self)? {
+                Some(help) => help,
+                None => return Ok(Help::Any),
+            },
+            _ => return Ok(Help::Any),
+        };
+        Ok(Help::Before(text))
+    }
+
+    /// What helps: the first that holds.
+    fn help(&self, alloc: Global) -> Result<Help, NoMemory> {
+        if self.is_of_columns()
+            && let Some(line) = given_columns(alloc, self.words)?
+        {
+            return Ok(Help::Alone(line));
+        }
+        if self.may_have_other_header() {
+            let text = format!(in alloc; "same_header=true tells a file with another header")?;
+            return Ok(Help::Before(text));
+        }
+        self.by_kind(alloc)
+    }
+
+    /// What the file is, where it is no CSV as it stands.
+    fn content(&self) -> Option<Content> {
+        match (Content::of_front(self.front), self.reject.error_type) {
+            (Some(content), _) => Some(content),
+            (None, ErrorKind::InvalidUnicode) => Some(NOT_UTF8),
+            (None, _) => None,
+        }
+    }
 }
 
-/// What helps against a fault of columns that are missing or too many.
-fn columns_help(alloc: Global, words: &[String], kind: ErrorKind) -> Result<String, NoMemory> {
-    if let Some(line) = given_columns(alloc, words)? {
-        return Ok(line);
+/// What helps against a first fault.
+pub fn help_line(alloc: Global, fault: &FirstFault<'_>) -> Result<String, NoMemory> {
+    if let Some(content) = fault.content() {
+        return content_line(alloc, fault.words, fault.file, content);
     }
-    let line = match kind {
-        ErrorKind::MissingColumns => {
-            format!(in alloc; "null_padding=true takes missing columns as null; {ANY}")?
-        }
-        _ => format!(in alloc; "{ANY}")?,
-    };
-    Ok(line)
-}
-
-/// What helps against a fault of a file with those first bytes.
-pub fn help_line(
-    alloc: Global,
-    words: &[String],
-    file: &str,
-    front: &[u8],
-    reject: &Reject,
-) -> Result<String, NoMemory> {
-    if let Some(packing) = Packing::of_front(front) {
-        return unpacking(alloc, words, file, packing);
-    }
-    let line = match reject.error_type {
-        ErrorKind::InvalidUnicode => unpacking(alloc, words, file, Packing::NotUtf8)?,
-        ErrorKind::MissingColumns | ErrorKind::TooManyColumns => {
-            columns_help(alloc, words, reject.error_type)?
-        }
-        ErrorKind::Cast if are_found(words) => format!(in alloc;
-            "sample_size=1000000 looks at more rows; all_varchar=true keeps texts; {ANY}"
-        )?,
-        _ => format!(in alloc; "{ANY}")?,
+    let line = match fault.help(alloc)? {
+        Help::Alone(line) => line,
+        Help::Before(text) => format!(in alloc; "{text}; {ANY}")?,
+        Help::Any => format!(in alloc; "{ANY}")?,
     };
     Ok(line)
 }

@@ -1,5 +1,8 @@
 // Why a file couldn't be read.
+use crate::again::call;
+use crate::given::{command_word, gives};
 use crate::glyphs::shown;
+use crate::shell::shell_list;
 use csv_source::{NoMemory, STANDARD_INPUT};
 use std::alloc::Global;
 use std::fs;
@@ -47,14 +50,49 @@ pub fn subject_of(alloc: Global, name: &str) -> Result<String, NoMemory> {
     Ok(format!(in alloc; "'{name}'")?)
 }
 
+/// Options that `batch` doesn't take as they are given.
+fn not_of_batch(words: &[String]) -> &'static [&'static str] {
+    if gives(words, "to", "csv") {
+        &["explain", "to"]
+    } else {
+        &["explain"]
+    }
+}
+
+/// The call that reads files whose names stand with commas between, where all of them are there.
+fn several_files<R: Files>(
+    rt: &R,
+    alloc: Global,
+    words: &[String],
+    name: &str,
+) -> Result<Option<String>, NoMemory> {
+    let is_list = command_word(words) != "batch" && name.contains(',');
+    if !is_list || !name.split(',').all(|file| fs::metadata(rt, file).is_ok()) {
+        return Ok(None);
+    }
+    let Some(files) = shell_list(alloc, name, "", "")? else {
+        return Ok(None);
+    };
+    let begin = format!(in alloc; "several files: csvload batch {files}")?;
+    Ok(Some(call(alloc, words, begin.as_str(), not_of_batch(words))?))
+}
+
 /// Why a file couldn't be read.
-pub fn read_fault<R: Files>(rt: &R, alloc: Global, name: &str) -> Result<String, NoMemory> {
+pub fn read_fault<R: Files>(
+    rt: &R,
+    alloc: Global,
+    words: &[String],
+    name: &str,
+) -> Result<String, NoMemory> {
     let subject = subject_of(alloc, name)?;
     if name == STANDARD_INPUT {
         return Ok(format!(in alloc; "{subject} can't be read")?);
     }
     let line = match lack_at(rt, name) {
-        Lack::Absent => format!(in alloc; "{subject} isn't there")?,
+        Lack::Absent => match several_files(rt, alloc, words, name)? {
+            Some(line) => line,
+            None => format!(in alloc; "{subject} isn't there")?,
+        },
         Lack::Folder => format!(in alloc; "{subject} is a folder")?,
         Lack::NoLeave => format!(in alloc; "{subject} may not be read by you")?,
         Lack::Other => format!(in alloc; "{subject} can't be opened or read")?,

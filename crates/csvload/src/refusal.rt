@@ -1,12 +1,13 @@
 // Why the words are refused.
 use crate::bad_option::bad_option;
-use crate::bad_value::bad_value;
 use crate::conflict::conflict;
 use crate::excerpt::shortened;
 use crate::given::{command_word, name_of, word_giving};
+use crate::value_advice::refused_value;
 use csv_source::NoMemory;
 use load_options::{WordFault, WordRule, word_at};
 use std::alloc::Global;
+use std::rt::Files;
 
 /// What is wanted behind a command.
 fn no_file(alloc: Global, command: &str) -> Result<String, NoMemory> {
@@ -29,7 +30,12 @@ fn repeated(alloc: Global, words: &[String], word: &str) -> Result<String, NoMem
 }
 
 /// Why the words are refused.
-pub fn refusal(alloc: Global, words: &[String], fault: WordFault) -> Result<String, NoMemory> {
+pub fn refusal<R: Files>(
+    rt: &R,
+    alloc: Global,
+    words: &[String],
+    fault: WordFault,
+) -> Result<String, NoMemory> {
     let word = word_at(words, fault.index);
     match fault.rule {
         WordRule::NoCommand => Ok(format!(in alloc;
@@ -42,8 +48,8 @@ pub fn refusal(alloc: Global, words: &[String], fault: WordFault) -> Result<Stri
             )?)
         }
         WordRule::NoFile => no_file(alloc, command_word(words)),
-        WordRule::BadOption => bad_option(alloc, words, fault.index),
-        WordRule::BadValue => bad_value(alloc, words, fault.index),
+        WordRule::BadOption => bad_option(rt, alloc, words, fault.index),
+        WordRule::BadValue => refused_value(alloc, words, fault.index),
         WordRule::Repeated => repeated(alloc, words, word),
         WordRule::Conflict => conflict(alloc, words, word),
     }

@@ -5,7 +5,7 @@ use std::alloc::Global;
 
 /// Whether a shell takes a byte of a word as it stands.
 fn is_plain(byte: u8) -> bool {
-    byte.is_ascii_alphanumeric() || b"._-/+@%,:=".contains(&byte)
+    byte.is_ascii_alphanumeric() || b"=,.:_-/".contains(&byte)
 }
 
 /// Whether a shell takes a word as it stands. Some shells take one that begins with `=` for the name of a program.
@@ -59,4 +59,23 @@ pub fn shell_files(alloc: Global, first: &str, second: &str) -> Result<Option<St
         alloc,
         format!(in alloc; "{folder}{first},{other}{second}")?.as_str(),
     )
+}
+
+/// Names of files with commas between, with another text in place of one of them, as the one word that `batch` takes.
+pub fn shell_list(
+    alloc: Global,
+    files: &str,
+    file: &str,
+    other: &str,
+) -> Result<Option<String>, NoMemory> {
+    let mut list = String::new(alloc);
+    for (place, name) in files.split(',').enumerate() {
+        if place > 0 {
+            list.push(',')?;
+        }
+        let name = if name == file { other } else { name };
+        list.push_str(folder_of(name))?;
+        list.push_str(name)?;
+    }
+    shell_word(alloc, list.as_str())
 }

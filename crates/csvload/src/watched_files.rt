@@ -3,16 +3,17 @@ ghost use Rattle.std.specs.Prelude.{◌≡◌};
 
 use crate::progress::ProgressLine;
 use crate::screen_line::ScreenLine;
-use csv_source::{Failed, Source};
+use crate::seen::SeenFile;
+use csv_source::{Failed, STANDARD_INPUT, Source};
 use std::io::Eprint;
 use std::rt::Files;
 use std::time::Clock;
 
-/// How many bytes of a file's front tell how it is packed or encoded.
-const FRONT: usize = 2;
+/// What is said before a reading waits for what a person types.
+const TYPED: &str = "csvload: reading from the terminal; ctrl-D ends it";
 
-/// Files, the name of the one that was opened last, its first bytes, and a line that shows how much of it was read. What
-/// was scanned is behind that: by the window under scan and, with several workers, by the next one, which is read
+/// Files, the name of the one that was opened last, what is remembered of each in the order in which they were opened, and a
+/// line that shows how much of the last one was read. What was scanned is behind that: by the window under scan and, with several workers, by the next one, which is read
 /// meanwhile; with `pipeline=true`, whose reading waits for no scan, it may be further.
 #[derive(Drop)]
 pub struct WatchedFiles<'a, R: AllocGlobal, S> {
@@ -20,23 +21,27 @@ pub struct WatchedFiles<'a, R: AllocGlobal, S> {
     files: S,
     progress: ProgressLine<'a, R>,
     name: String,
-    front: Vec<u8>,
+    seen: Vec<SeenFile>,
+    is_typed: bool,
 }
 
 impl<'a, R: Clock + Eprint + Files + AllocGlobal, S: Source> WatchedFiles<'a, R, S> {
-    /// Files of which none was opened. How much is read of them is shown on a line where `shows` is true.
+    /// Files of which none was opened. How much is read of them is shown on a line where `shows` is true. Standard input is a
+    /// terminal where `is_typed` is.
     pub fn new(
         rt: &'a R,
         files: S,
         line: &'a ScreenLine<'a, R>,
         shows: bool,
+        is_typed: bool,
     ) -> WatchedFiles<'a, R, S> {
         WatchedFiles {
             rt,
             files,
             progress: ProgressLine::new(rt, line, shows),
             name: String::new(rt.alloc()),
-            front: Vec::new(rt.alloc()),
+            seen: Vec::new(rt.alloc()),
+            is_typed,
         }
     }
 
@@ -45,9 +50,9 @@ impl<'a, R: Clock + Eprint + Files + AllocGlobal, S: Source> WatchedFiles<'a, R,
         self.name.as_str()
     }
 
-    /// The first bytes of the file that was opened last, as far as they were read.
-    pub fn front(&self) -> &[u8] {
-        &self.front
+    /// What is remembered of each file, in the order in which they were opened.
+    pub fn seen(&self) -> &[SeenFile] {
+        &self.seen
     }
 }
 
@@ -59,8 +64,11 @@ impl<'a, R: Clock + Eprint + Files + AllocGlobal, S: Source> Source for WatchedF
     ghost faults = { λ s. S.faults s.files };
 
     fn open(&mut self, name: &str) -> Result<(), Failed> {
-        self.front = Vec::new(self.rt.alloc());
+        let _ = self.seen.push(SeenFile::new(self.rt.alloc()));
         self.name = String::from_str(self.rt.alloc(), name).unwrap_or(String::new(self.rt.alloc()));
+        if self.is_typed && name == STANDARD_INPUT {
+            let _ = self.rt.eprintln(TYPED);
+        }
         self.files.open(name)?;
         self.progress.begin(name);
         Ok(())
@@ -69,9 +77,9 @@ impl<'a, R: Clock + Eprint + Files + AllocGlobal, S: Source> Source for WatchedF
     fn read(&mut self, buf: &mut [u8]) -> Result<usize, Failed> {
         let count = self.files.read(buf)?;
         self.progress.advance(count);
-        let wanted = FRONT.saturating_sub(self.front.len());
-        // Where memory is wanting, only a line for a person knows less.
-        let _ = self.front.extend_from_slice(&buf[..count.min(wanted)]);
+        if let Some(file) = self.seen.last_mut() {
+            file.advance(&buf[..count]);
+        }
         Ok(count)
     }
 }
