@@ -9,11 +9,11 @@ import sys
 
 sys.dont_write_bytecode = True
 
-from messages import conflicts, files, hints, packed, readings, refusals, row_faults  # noqa: E402 (before them nothing may be written there)
+from messages import advice, conflicts, files, hints, packed, readings, refusals, row_faults  # noqa: E402 (before them nothing may be written there)
 
 
 def main() -> None:
-    for part in (refusals, conflicts, row_faults, packed, files, hints, readings):
+    for part in (refusals, conflicts, row_faults, packed, files, hints, advice, readings):
         part.main()
     print(".ci/program_messages.py: each trouble has its line, a long reading is shown, and a summary has its taps")
 

@@ -24,6 +24,9 @@ _csvload() {
         return
     fi
     case ${COMP_WORDS[1]} in
+        help)
+            [ "$COMP_CWORD" -eq 2 ] && mapfile -t COMPREPLY < <(compgen -W 'options report' -- "$word")
+            ;;
         make)
             compopt -o nospace
             [ "$COMP_CWORD" -eq 3 ] && mapfile -t COMPREPLY < <(compgen -W 'rows=' -- "$word")

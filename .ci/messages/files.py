@@ -107,6 +107,18 @@ FAULTS = [
         F,
     ),
     Case(["batch", "f.csv,f.csv", *DATES, "max_errors=7"], 9, "csvload: the files have more than 7 faults (max_errors)\n", b"fault|over 7 faults\n", F),
+    Case(["convert", "f.csv,h.csv"], 2, "csvload: several files: csvload batch f.csv,h.csv\n", READ, {**F, **HEADED}),
+    Case(
+        ["load", "f.csv,my h.csv", "delim=,", "comment=#"],
+        2,
+        "csvload: several files: csvload batch 'f.csv,my h.csv' delim=, 'comment=#'\n",
+        READ,
+        {**F, "my h.csv": b""},
+    ),
+    Case(["convert", "f.csv,h.csv", "to=csv"], 2, "csvload: several files: csvload batch f.csv,h.csv\n", READ, {**F, **HEADED}),
+    Case(["sniff", "f.csv,h.csv", "explain=true"], 2, "csvload: several files: csvload batch f.csv,h.csv\n", READ, {**F, **HEADED}),
+    Case(["load", "f.csv,"], 2, "csvload: 'f.csv,' isn't there\n", READ, F),
+    Case(["load", "f.csv,nope.csv"], 2, "csvload: 'f.csv,nope.csv' isn't there\n", READ, F),
     Case(["load", b"\xff.csv"], 8, "csvload: a word isn't UTF-8; a file of such a name is read by csvload load - <FILE\n", b""),
 ]
 

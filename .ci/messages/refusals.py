@@ -54,6 +54,14 @@ OPTIONS = [
     refused(["make", "7", "sep=,"], "BadOption", 2, "'sep=,' gives no option of make" + HELP),
     option("header", "BadOption", "'header' is no option: one is written header=VALUE"),
     option("--delim=,", "BadOption", "'--delim=,' is no option: one is written delim=VALUE, without dashes"),
+    option("--foo=1", "BadOption", "no option has dashes, and foo is none of load"),
+    option("-foo=1", "BadOption", "no option has dashes, and foo is none of load"),
+    option("--=1", "BadOption", "'--=1' gives no option of load" + HELP),
+    option("explain=true", "BadOption", "explain is an option of sniff"),
+    option("same_header=true", "BadOption", "same_header is an option of batch"),
+    option("rows=7", "BadOption", "rows is an option of make"),
+    refused(["batch", "f.csv", "explain=true"], "BadOption", 2, "explain is an option of sniff"),
+    refused(["make", "7", "delim=,"], "BadOption", 2, "'delim=,' gives no option of make" + HELP),
     option("--frob", "BadOption", "'--frob' is no option: one is written NAME=VALUE"),
     option("b.csv", "BadOption", "'b.csv' is no option; several files: csvload batch f.csv,b.csv"),
     option("b\x1b\n", "BadOption", r"'b\x1b\n' is no option: one is written NAME=VALUE"),
@@ -124,7 +132,16 @@ VALUES = [
     option("types=" + "BIGINT," * 49 + "bigint", "BadValue", "'bigint' is no type: BIGINT is meant"),
     option("types=BIGINT," + "x" * 70, "BadValue", f"'{'x' * 60}..' {NO_TYPE}"),
     option("dtypes=", "BadValue", "'' " + NO_TYPE),
-    option("types=BIGINT, DATE", "BadValue", "' DATE' " + NO_TYPE),
+    option("types=BIGINT, DATE", "BadValue", "no space stands behind a comma"),
+    option("dtypes=BIGINT, DATE", "BadValue", "no space stands behind a comma"),
+    refused(["load", "f.csv", "types=BIGINT,", "DATE"], "BadValue", 2, "no space stands behind a comma"),
+    option("types=BIGINT,", "BadValue", "'' " + NO_TYPE),
+    option("types=id:BIGINT", "BadValue", "types has no names: column_types=id:BIGINT"),
+    option("types={'my id': 'BIGINT', 'b': 'DATE'}", "BadValue", "types has no names: 'column_types=my id:BIGINT,b:DATE'"),
+    option("delim=", "BadValue", r"'delim=' is refused: delim takes one ASCII character, or \t for a tab; a shell takes ; and | for its own: 'delim=;'"),
+    option("sep=", "BadValue", r"'sep=' is refused: sep takes one ASCII character, or \t for a tab; a shell takes ; and | for its own: 'sep=;'"),
+    refused(["convert", "f.csv", "to=out.csv"], "BadValue", 2, "'to=out.csv' is refused: to takes csv or sqlite; output=out.csv names the file"),
+    refused(["convert", "f.csv", "to=../my out"], "BadValue", 2, "'to=../my out' is refused: to takes csv or sqlite; 'output=../my out' names the file"),
     option("names=a,b,a", "BadValue", "'a' stands twice in names"),
     option("names=a,,b", "BadValue", "name 2 of names is empty"),
     option("column_names=a,b,", "BadValue", "name 3 of column_names is empty"),
@@ -168,17 +185,55 @@ MANY = (
 MANY_WORDS = [refused(MANY, "BadValue", len(MANY) - 1, "'pipeline=2' is refused: pipeline takes true or false")]
 
 
+SPACED = {"my file.csv": b"a\n1\n", "a b c.csv": b"a\n1\n", "it's b.csv": b"a\n1\n"}
+
+
+def check_spaced_names() -> None:
+    """Words that are a file's name between spaces, where such a file is there."""
+    quoted = {
+        "my file.csv": "'my file.csv'",
+        "a b c.csv": "'a b c.csv'",
+        "it's b.csv": r"'it'\''s b.csv'",
+    }
+    for name, shown in quoted.items():
+        status, _, said = run(["load", *name.split(" ")], SPACED)
+        same((status, said), (1, f"csvload: a name with spaces stands in quotes: {shown}\n"), name)
+    several = "csvload: 'b.csv' is no option; several files: csvload batch my,b.csv\n"
+    same(run(["load", "my", "b.csv"], SPACED)[2], several, "my b.csv")
+
+
+def check_fits(text: bytes, lines: int) -> None:
+    rows = text.decode().splitlines()
+    assert len(rows) <= lines and max(map(len, rows)) <= 80, text
+
+
 def check_own_texts() -> None:
-    """The help and the version, each by its words, and to nobody."""
+    """The help, its parts and the version, each by its words, and to nobody. The help fits on a small terminal."""
     help_text = run(["--help"], F)
     same(help_text[0], 0, "--help")
     assert help_text[1].startswith(b"csvload: finds how a CSV file is written") and help_text[2] == "", help_text
-    for words in [["-h"], ["help"], ["help", "load"], ["--help", "load"], ["load", "--help"], ["batch", "-h", "x"]]:
+    check_fits(help_text[1], 24)
+    # Three examples stand first.
+    examples = [line for line in help_text[1].decode().split("Usage:")[0].splitlines() if line.startswith("  csvload ")]
+    same(len(examples), 3, "--help")
+    for words in [
+        ["-h"], ["help"], ["help", "load"], ["help", "-h"], ["--help", "load"], ["load", "--help"], ["batch", "-h", "x"],
+        ["load", "f.csv", "--help"], ["load", "absent.csv", "-h", "x"], ["load", "f.csv", "--help", "header=yes"], ["--help", "report"],
+    ]:  # fmt: skip
         same(run(words, F), help_text, words)
-    for words in [["--version"], ["-V"], ["version"]]:
+    parts = {"options": b"Options of csvload", "report": b"The report of csvload"}
+    for part, begins in parts.items():
+        status, text, said = run(["help", part], F)
+        same((status, said, text[: len(begins)]), (0, "", begins), part)
+        assert f"csvload help {part} ".encode() in help_text[1], help_text
+        check_fits(text, 60)
+        same(run(["help", part, "--help"], F), (status, text, said), part)
+    for words in [["--version"], ["-V"], ["version"], ["version", "load", "x"]]:
         same(run(words, F), (0, b"csvload 0.2.0\n", ""), words)
+    same(run(["load", "f.csv", "skip=0", "--help"], F)[0], 1, "--help behind an option")
 
 
 def main() -> None:
     check(COMMANDS + OPTIONS + VALUES + TYPES + MANY_WORDS)
+    check_spaced_names()
     check_own_texts()

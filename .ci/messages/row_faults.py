@@ -4,7 +4,14 @@ from messages.runs import Case, check, run, same
 
 ANY = "ignore_errors=true passes over faulty rows, store_rejects=true lists them"
 
-FOUND = "sample_size=1000000 looks at more rows; all_varchar=true keeps texts; "
+MORE = "sample_size=1000000 looks at more rows; "
+
+
+def kept(word: str) -> str:
+    """What keeps the values of a column whose type was found."""
+    return f"{word} keeps this column as text; "
+
+
 
 UMLAUTS = "Nr;Name\n7;Grün\n8;Müller GmbH\n".encode("latin-1")
 
@@ -39,11 +46,11 @@ FIRST = [
         "3: column 2 'quantity': Could not convert string \"two\" to 'BIGINT'",
         "1003,two",
         5,
-        ANY,
+        "a BIGINT is written in digits alone; " + ANY,
     )._replace(text=FAULTY_TEXT),
     first_error(["load"], UMLAUTS, "2: column 2 'Name': Invalid unicode detected", r"7;Gr\xfcn", 4, iconv("load")),
     first_error(
-        ["summary", "delim=;"], b"M\xfc;7\n", "1: column 1 'column0': Invalid unicode detected", r"M\xfc;7", 1, iconv("summary")
+        ["summary", "delim=;"], b"M\xfc;7\n", "1: column 1 'column0': Invalid unicode detected", r"M\xfc;7", 1, iconv("summary") + " 'delim=;'"
     ),
     # The stored row is cut in the midst of a character.
     first_error(
@@ -52,7 +59,7 @@ FIRST = [
         "20502: column 1 'n': Could not convert string \"x\" to 'BIGINT'",
         "x,a" + "é" * 57,
         0,
-        FOUND + ANY,
+        kept("column_types=n:VARCHAR") + MORE + ANY,
     ),
     first_error(
         ["summary"],
@@ -60,7 +67,7 @@ FIRST = [
         f"20502: column 1 'n': Could not convert string \"{'y' * 60}..\" to 'BIGINT'",
         "y" * 60,
         0,
-        FOUND + ANY,
+        kept("column_types=n:VARCHAR") + MORE + ANY,
     ),
     # A tab, a bar and wide characters before the caret.
     first_error(
@@ -69,7 +76,7 @@ FIRST = [
         "20502: column 3 'u': Could not convert string \"drei\" to 'BIGINT'",
         "1,\\t\\|漢字,drei",
         11,
-        FOUND + ANY,
+        kept("column_types=u:VARCHAR") + MORE + ANY,
     ),
     # A fault behind the thirtieth character.
     first_error(
@@ -78,7 +85,7 @@ FIRST = [
         "20502: column 3 'u': Could not convert string \"drei\" to 'BIGINT'",
         "b" * 29 + ",drei",
         30,
-        FOUND + ANY,
+        kept("column_types=u:VARCHAR") + MORE + ANY,
     ),
     first_error(
         ["load", "types=BIGINT"],
@@ -86,9 +93,9 @@ FIRST = [
         r"""2: column 1 'column0': Could not convert string "2\x1b[31m" to 'BIGINT'""",
         r"2\x1b[31m",
         0,
-        ANY,
+        "a BIGINT is written in digits alone; " + ANY,
     ),
-    first_error(["load", "sample_size=2"], PLAIN, "3: column 1 'n': Could not convert string \"x\" to 'BIGINT'", 'x,"b"', 0, FOUND + ANY),
+    first_error(["load", "sample_size=2"], PLAIN, "3: column 1 'n': Could not convert string \"x\" to 'BIGINT'", 'x,"b"', 0, kept("column_types=n:VARCHAR") + MORE + ANY),
     first_error(
         ["load", "types=VARCHAR", "delim=,"],
         b"a\nb,c\n",
@@ -112,7 +119,7 @@ FIRST = [
         f"2: column 1 'column0': Could not convert string \"2\"{'y' * 58}..\" to 'BIGINT'",
         '2"' + "y" * 58,
         0,
-        ANY,
+        "a BIGINT is written in digits alone; " + ANY,
     ),
     # What turns the direction of a text, or begins a terminal's command, is shown by its bytes.
     first_error(
@@ -121,7 +128,7 @@ FIRST = [
         r"""2: column 1 'column0': Could not convert string "2\xe2\x80\xae\xc2\x9b" to 'BIGINT'""",
         r"2\xe2\x80\xae\xc2\x9b",
         0,
-        ANY,
+        "a BIGINT is written in digits alone; " + ANY,
     ),
     first_error(
         ["load", "names=a,b", "delim=,"],
@@ -145,7 +152,7 @@ FIRST = [
         "4: column 3: Expected Number of Columns: 2 Found: 3",
         "3,4,5",
         4,
-        ANY,
+        "csvload sniff f.csv explain=true delim=, tells how the rows are cut; " + ANY,
     ),
     first_error(
         ["load", 'quote="', "delim=,"],
@@ -158,7 +165,7 @@ FIRST = [
     Case(
         ["batch", "f.csv,g.csv"],
         3,
-        "csvload: g.csv:2: column 1 'n': Could not convert string \"x\" to 'BIGINT'\n    x\n    ^\ncsvload: " + FOUND + ANY + "\n",
+        "csvload: g.csv:2: column 1 'n': Could not convert string \"x\" to 'BIGINT'\n    x\n    ^\ncsvload: same_header=true tells a file with another header; " + ANY + "\n",
         None,
         {"f.csv": b"n\n1\n", "g.csv": b"n\nx\n"},
     ),
@@ -172,6 +179,67 @@ FIRST = [
         UMLAUTS,
     ),
 ]
+
+
+def helped(words: list[str], data: bytes, helps: str, files: dict[str, bytes] | None = None) -> tuple[list[str], dict[str, bytes], str]:
+    """Words behind a command and a file with a first fault, the files, and the last line."""
+    return words, {"f.csv": data, **(files or {})}, f"csvload: {helps}\n"
+
+
+THREE = b"a,b\n1,2\n3,4\n"
+
+# Rows of 40 bytes, over 4 MiB of them.
+FAR = b"n,t\n" + (b"1," + b"t" * 37 + b"\n") * 105_000 + b"x,t\n"
+
+DAYS = b"id,day\n1,31/12/2024\n"
+
+# What helps, by the kind of the fault and what was given.
+HELPS = [
+    # too few columns
+    helped(["load", "f.csv", "delim=,"], THREE + b"\x1a", "byte 1A ends a file of DOS; ignore_errors=true passes over it"),
+    helped(["load", "f.csv", "delim=,"], THREE + b"\x1a\n5,6\n", "null_padding=true takes missing columns as null; " + ANY),
+    helped(["load", "f.csv", "delim=,"], THREE + b"\x1bb", "null_padding=true takes missing columns as null; " + ANY),
+    # too many
+    helped(["load", "f.csv", "delim=,", "nullstr=n a"], THREE + b"1,2,3\n", "csvload sniff f.csv explain=true delim=, 'nullstr=n a' tells how the rows are cut; " + ANY),
+    helped(["load", "f.csv", "delim=,", "nullstr=" + "n" * 60], THREE + b"1,2,3\n", "csvload sniff f.csv explain=true, with the same words tells how the rows are cut; " + ANY),
+    helped(["convert", "f.csv", "delim=,", "to=sqlite", "table=t"], THREE + b"1,2,3\n", "csvload sniff f.csv explain=true delim=, tells how the rows are cut; " + ANY),
+    # a row too long
+    helped(["load", "f.csv", "max_line_size=9"], b"a,b\n1,2\n3,444444444\n", "max_line_size=4194304 is the most; " + ANY),
+    helped(["load", "f.csv"], b"a,b\n1,2\n" + b"x" * 2_097_153, "max_line_size=4194304 is the most; " + ANY),
+    helped(["load", "f.csv", "max_line_size=4194304"], b"a\n1\n" + b"x" * 4_194_305, ANY),
+    # a value of a type that was found
+    helped(["load", "f.csv"], FAR, kept("column_types=n:VARCHAR") + ANY),
+    helped(["load", "f.csv", "sample_size=1000000"], FAR, kept("column_types=n:VARCHAR") + ANY),
+    helped(["load", "f.csv", "column_types=t:VARCHAR"], NUMBERS + b"x,y,1\n", kept("column_types=t:VARCHAR,n:VARCHAR") + MORE + ANY),
+    helped(["load", "f.csv", "sample_size=2"], b"my n,t\n1,a\nx,b\n", kept("'column_types=my n:VARCHAR'") + MORE + ANY),
+    helped(["load", "f.csv", "sample_size=2"], b"it's,t\n1,a\nx,b\n", kept("'column_types=it'\\''s:VARCHAR'") + MORE + ANY),
+    helped(["load", "f.csv", "sample_size=2"], b'"n,m",t\n1,a\nx,b\n', "all_varchar=true keeps texts; " + MORE + ANY),
+    helped(["load", "f.csv", "sample_size=2"], b'"n\nm",t\n1,a\nx,b\n', "all_varchar=true keeps texts; " + MORE + ANY),
+    helped(["load", "f.csv", "sample_size=2", "column_types=t:VARCHAR"], b'"n,m",t\n1,a\nx,b\n', MORE + ANY),
+    helped(["load", "f.csv", "sample_size=1"], b"1,a\nx,b\n", kept("column_types=column0:VARCHAR") + MORE + ANY),
+    # a value of a given type
+    helped(["load", "f.csv", "types=BIGINT,DATE"], DAYS, "a DATE is written 2024-12-31; " + ANY),
+    helped(["load", "f.csv", "column_types=day:DATE"], DAYS, "a DATE is written 2024-12-31; " + ANY),
+    helped(["load", "f.csv", "types=BIGINT,TIME"], b"id,t\n1,10.30\n", "a TIME is written 10:30:00; " + ANY),
+    helped(["load", "f.csv", "types=BIGINT,TIMESTAMP"], DAYS, "a TIMESTAMP is written 2024-12-31 10:30:00; " + ANY),
+    helped(["load", "f.csv", "types=BIGINT,BOOLEAN"], b"id,b\n1,yes\n", "a BOOLEAN is written true or false; " + ANY),
+    helped(["load", "f.csv", "types=BIGINT,BIGINT"], b"id,b\n1,7.5\n", "a BIGINT is written in digits alone; " + ANY),
+    # a later file
+    helped(["batch", "f.csv,g.csv"], b"n,t\n1,a\n", "same_header=true tells a file with another header; " + ANY, {"g.csv": b"t,n\na,1\n"}),
+    helped(["batch", "f.csv,g.csv"], b"1,a\n2,b\n", kept("column_types=column0:VARCHAR") + ANY, {"g.csv": b"b,1\n"}),
+    helped(["batch", "f.csv,g.csv", "same_header=true"], b"n,t\n1,a\n", kept("column_types=n:VARCHAR") + ANY, {"g.csv": b"n,t\nb,1\n"}),
+    helped(["batch", "f.csv,g.csv", "names=n,t"], b"n,t\n1,a\n", kept("column_types=n:VARCHAR") + ANY, {"g.csv": b"n,t\nb,1\n"}),
+    helped(["batch", "f.csv,g.csv", "delim=,"], THREE, "same_header=true tells a file with another header; " + ANY, {"g.csv": b"a,b\n1,2,3\n"}),
+    # another fault
+    helped(["load", "f.csv", 'quote="', "delim=,"], b'a,b\n1,x\n2,"y\n', ANY),
+]
+
+
+def check_helps() -> None:
+    for words, files, helps in HELPS:
+        status, _, said = run(words, files)
+        same((status, said.splitlines(True)[3:]), (3, [helps]), words)
+
 
 def check_wide() -> None:
     """The first fault behind 2,500 columns with long names, whose lines have more than 60 KB."""
@@ -218,4 +286,5 @@ PASSED = [
 
 def main() -> None:
     check(FIRST + PASSED)
+    check_helps()
     check_wide()

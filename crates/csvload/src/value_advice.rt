@@ -3,7 +3,7 @@ use crate::bad_value::bad_value;
 use crate::given::{name_of, value_of};
 use crate::shell::shell_word;
 use csv_source::NoMemory;
-use load_options::word_at;
+use load_options::{option_named, word_at};
 use std::alloc::Global;
 
 /// What no pair of a name and a type has, but another program's list of them.
@@ -45,23 +45,25 @@ fn types_meant(alloc: Global, words: &[String], index: usize) -> Result<Option<S
 
 /// What is said behind why a value is refused.
 fn advice(alloc: Global, word: &str) -> Result<Option<String>, NoMemory> {
-    let value = value_of(word);
-    match name_of(word) {
-        "delim" if value.is_empty() => Ok(Some(format!(in alloc;
-            "a shell takes ; and | for its own: 'delim=;'"
-        )?)),
-        "to" if value.contains(['.', '/']) => match shell_word(alloc, value)? {
-            Some(file) => Ok(Some(format!(in alloc; "where it goes is said behind: > {file}")?)),
-            None => Ok(None),
-        },
-        _ => Ok(None),
+    let (name, value) = (name_of(word), value_of(word));
+    if option_named(name.as_bytes()) == b"delim".as_slice() && value.is_empty() {
+        let line = format!(in alloc; "a shell takes ; and | for its own: '{name}=;'")?;
+        return Ok(Some(line));
     }
+    if name == "to" && value.contains(['.', '/']) {
+        let word = shell_word(alloc, format!(in alloc; "output={value}")?.as_str())?;
+        return match word {
+            Some(word) => Ok(Some(format!(in alloc; "{word} names the file")?)),
+            None => Ok(None),
+        };
+    }
+    Ok(None)
 }
 
 /// Why a value is refused, and what may have been meant.
 pub fn refused_value(alloc: Global, words: &[String], index: usize) -> Result<String, NoMemory> {
     let word = word_at(words, index);
-    if name_of(word) == "types"
+    if option_named(name_of(word).as_bytes()) == b"types".as_slice()
         && let Some(line) = types_meant(alloc, words, index)?
     {
         return Ok(line);

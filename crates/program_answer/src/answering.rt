@@ -1,12 +1,13 @@
 // The answer to words: a text of the program's own, or the loader's.
-ghost use Rattle.std.specs.Prelude.{◌≡◌, None, false, true};
+ghost use Rattle.std.specs.Prelude.{◌≡◌, None, Some};
 ghost use Rattle.loader_reply.specs.Reply.{texts};
 ghost use Rattle.loader_reply.specs.Replying.{ReadsNoFile};
-ghost use Rattle.program_answer.specs.OwnText.{IsTold, asks_help, asks_version, is_help_option, own_text};
+ghost use Rattle.program_answer.specs.OwnText.{IsTold, asks_help, asks_version, help_of, is_help_option, own_text};
+ghost use Rattle.program_answer.specs.declared.answering.OwnText.TheVariants as owns;
 ghost use Rattle.program_answer.specs.ProgramTaps.{program_taps};
 ghost use Rattle.program_answer.specs.RunOf.{IsRun};
 
-use crate::help::{HELP, VERSION};
+use crate::help::{HELP, OPTIONS, REPORT, VERSION};
 use crate::loading::load;
 use csv_loader::Ending;
 use csv_source::{Gate, NoMemory, Sink, Source, write_all};
@@ -19,10 +20,14 @@ use std::thread::Threads;
 #[derive(Clone, Copy)]
 pub enum OwnText {
     Help,
+    /// The options.
+    Options,
+    /// What is printed, and the exit statuses.
+    Report,
     Version,
 }
 
-/// Whether a word asks for help wherever a command or a file may stand.
+/// Whether a word asks for help wherever a command, a file or the first option may stand.
 fn is_help_option(word: &str) -> bool
     ensures { result ≡ is_help_option word.now }
 {
@@ -34,7 +39,24 @@ fn asks_help(words: &[String]) -> bool
     ensures { result ≡ asks_help (texts words.now) }
 {
     let first = word_at(words, 0);
-    first == "help" || is_help_option(first) || is_help_option(word_at(words, 1))
+    first == "help"
+        || is_help_option(first)
+        || is_help_option(word_at(words, 1))
+        || is_help_option(word_at(words, 2))
+}
+
+/// The part of the help that words ask for.
+fn help_of(words: &[String]) -> OwnText
+    ensures { result ≡ help_of (texts words.now) }
+{
+    if word_at(words, 0) != "help" {
+        return OwnText::Help;
+    }
+    match word_at(words, 1) {
+        "options" => OwnText::Options,
+        "report" => OwnText::Report,
+        _ => OwnText::Help,
+    }
 }
 
 /// Whether words ask for the version.
@@ -50,7 +72,7 @@ pub fn own_text(words: &[String]) -> Option<OwnText>
     ensures { result ≡ own_text (texts words.now) }
 {
     if asks_help(words) {
-        Some(OwnText::Help)
+        Some(help_of(words))
     } else if asks_version(words) {
         Some(OwnText::Version)
     } else {
@@ -78,10 +100,14 @@ pub fn answer<R: Threads + Wait + Sync, S: Source + Send, K: Sink, G: Gate>(
     sink: &mut K,
     gate: &G,
 ) -> Ending
-    // Words that ask for the help or the version are told it, whatever stands behind them.
-    ensures help { asks_help (texts words.now) ≡ true
+    // Words that ask for the help, a part of it or the version are told it, whatever stands behind them.
+    ensures help { own_text (texts words.now) ≡ Some owns.Help
         → IsTold HELP.now (K.faults sink.old) (K.faults sink.new) (K.taken sink.old) (K.taken sink.new) result }
-    ensures version { asks_help (texts words.now) ≡ false → asks_version (texts words.now) ≡ true
+    ensures options { own_text (texts words.now) ≡ Some owns.Options
+        → IsTold OPTIONS.now (K.faults sink.old) (K.faults sink.new) (K.taken sink.old) (K.taken sink.new) result }
+    ensures report { own_text (texts words.now) ≡ Some owns.Report
+        → IsTold REPORT.now (K.faults sink.old) (K.faults sink.new) (K.taken sink.old) (K.taken sink.new) result }
+    ensures version { own_text (texts words.now) ≡ Some owns.Version
         → IsTold VERSION.now (K.faults sink.old) (K.faults sink.new) (K.taken sink.old) (K.taken sink.new) result }
 
     // All others are the loader's.
@@ -96,6 +122,8 @@ pub fn answer<R: Threads + Wait + Sync, S: Source + Send, K: Sink, G: Gate>(
 {
     match own_text(words) {
         Some(OwnText::Help) => return tell(sink, HELP),
+        Some(OwnText::Options) => return tell(sink, OPTIONS),
+        Some(OwnText::Report) => return tell(sink, REPORT),
         Some(OwnText::Version) => return tell(sink, VERSION),
         None => {}
     }
