@@ -100,7 +100,7 @@ def check_other_calls() -> None:
     typed = advised(["load", "f.csv", "types={'a': 'VARCHAR'}"], parts, "(column_types=.*)")
     assert b"column|0|VARCHAR|a\n" in shell(f"csvload load f.csv {typed}", parts)[1], typed
     written = advised(["convert", "f.csv", "to=my out.csv"], parts, "(> .*)")
-    same(shell(f"csvload convert f.csv {written} && cat my*out.csv", parts)[1], b"a\r\n1\r\n", written)
+    same(shell(f"csvload convert f.csv {written} && cat my*out.csv", parts)[1], b"a\n1\n", written)
     delim = advised(["load", "f.csv", "delim="], parts, "('delim=.')")
     assert b"row|1|Ana\n" in shell(f"csvload load h.csv {delim}", {"h.csv": ROWS})[1], delim
 

@@ -57,7 +57,7 @@ def check_skip() -> None:
         assert "hint: line 1" not in said, (line, said)
     # Of several files the first one is meant.
     same(run(["batch", "f.csv,g.csv", "delim=;"], {"f.csv": SEP, "g.csv": rows})[2], SKIP, "the first of two")
-    same(run(["batch", "g.csv,f.csv", "delim=;", "null_padding=true"], {"f.csv": SEP, "g.csv": rows})[2], "", "the second of two")
+    same(run(["batch", "g.csv,f.csv", "delim=;", "header=false"], {"f.csv": SEP, "g.csv": rows})[2], "", "the second of two")
     # What the hint says is so.
     status, text, said = run(["load", "f.csv", "skip=1"], {"f.csv": SEP})
     assert (status, said) == (0, "") and b"column|1|VARCHAR|name\nrow|1|Ana\n" in text, (text, said)

@@ -113,9 +113,12 @@ def check_batch() -> None:
         "-,b.gz": "unpack 'b.gz' first",
     }
     for word, line in lines.items():
-        same(last_line(["batch", word], files, plain), (3, f"{behind}{line}\n"), word)
-    # The fault lies in a file behind whose opening others were opened, or none.
-    same(last_line(["batch", "a.csv,b.gz", "delim=,"], files), (3, f"{behind}{lines['a.csv,b.gz']} delim=,\n"), "delim=,")
+        # What is noise may come to rows.
+        same(last_line(["batch", word], files, plain)[1], f"{behind}{line}\n", word)
+    same(last_line(["batch", "a.csv,b.gz", "delim=,"], files)[1], f"{behind}{lines['a.csv,b.gz']} delim=,\n", "delim=,")
+    # The first fault is the noise's, whatever is read behind it.
+    line = f"{behind}gunzip -c b.gz | csvload batch '-,a.csv,c d.csv' names=x\n"
+    same(last_line(["batch", "b.gz,a.csv,c d.csv", "names=x"], files), (3, line), "the first of three")
 
 
 def check_explained() -> None:

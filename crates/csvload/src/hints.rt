@@ -44,9 +44,7 @@ fn unquoted(text: &str) -> &str {
 fn tells_delimiter(line: &[u8]) -> bool {
     let text = unquoted(str::from_utf8(line).unwrap_or(""));
     match (text.get(..SEPARATOR.len()), text.get(SEPARATOR.len()..)) {
-        (Some(begin), Some(rest)) => {
-            begin.eq_ignore_ascii_case(SEPARATOR) && rest.chars().count() == 1
-        }
+        (Some(begin), Some(rest)) => { begin.eq_ignore_ascii_case(SEPARATOR) && rest.len() == 1 }
         _ => false,
     }
 }

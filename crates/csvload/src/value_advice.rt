@@ -6,8 +6,8 @@ use csv_source::NoMemory;
 use load_options::{option_named, word_at};
 use std::alloc::Global;
 
-/// What no pair of a name and a type has, but another program's list of them.
-const BRACES: [char; 5] = ['{', '}', '\'', '"', ' '];
+/// What stands around names and types in another program's list of them.
+const AROUND: [char; 5] = ['{', '}', '\'', '"', ' '];
 
 /// Whether a word stands alone behind a comma.
 fn is_cut_by_space(words: &[String], index: usize) -> bool {
@@ -18,10 +18,14 @@ fn is_cut_by_space(words: &[String], index: usize) -> bool {
 /// Pairs of a name and a type as `column_types` takes them.
 fn pairs(alloc: Global, value: &str) -> Result<String, NoMemory> {
     let mut pairs = String::new(alloc);
-    for character in value.chars() {
-        if !BRACES.contains(&character) {
-            pairs.push(character)?;
+    for (place, pair) in value.split(',').enumerate() {
+        if place > 0 {
+            pairs.push(',')?;
         }
+        let (name, ty) = pair.rsplit_once(':').unwrap_or((pair, ""));
+        pairs.push_str(name.trim_matches(AROUND))?;
+        pairs.push(':')?;
+        pairs.push_str(ty.trim_matches(AROUND))?;
     }
     Ok(pairs)
 }
