@@ -186,8 +186,34 @@ def check_in_file() -> None:
         same((program.returncode, said.read()), (0, b""), "a long reading")
 
 
+TYPED = b"csvload: reading from the terminal; ctrl-D ends it\n"
+
+
+def said_of_typed(words: list[str], typed: bytes) -> tuple[int, bytes, bytes]:
+    """The status, the text and what is said where standard input is a terminal at which this is typed."""
+    terminal, other_side = pty.openpty()
+    with subprocess.Popen([PROGRAM, *words], stdin=other_side, stdout=subprocess.PIPE, stderr=subprocess.PIPE) as program:
+        os.close(other_side)
+        os.write(terminal, typed)
+        text, said = program.communicate(timeout=60)
+    os.close(terminal)
+    return program.returncode, text, said
+
+
+def check_typed() -> None:
+    """Where a person is to type the input a line says how it ends; none does where nothing is read, or a file is."""
+    end = b"\x04"
+    status, text, said = said_of_typed(["load", "-", "header=true"], b"a,b\n1,2\n" + end)
+    assert (status, said) == (0, TYPED) and b"row|1|2\nrows|1\n" in text, (text, said)
+    same(said_of_typed(["load", "-", "frob=1"], end)[0], 1, "refused words")
+    for words in [["make", "7", "rows=1"], ["--help"], ["load", "/dev/null"]]:
+        status, _, said = said_of_typed(words, end)
+        same((status, said), (0, b""), words)
+
+
 def main() -> None:
     check_quiet()
+    check_typed()
     check_summary()
     check_short_reading()
     check_reading_of_pipe()

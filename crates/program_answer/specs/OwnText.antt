@@ -1,5 +1,5 @@
 -- The words that ask for a text of the program's own, and not for a run.
-use Rattle.std.specs.Prelude.{◌≡◌, ◌⊎◌, ℕ, ◌&&◌, ◌||◌, Bool, if◌then◌else◌, List, codes, Option, Some, None}
+use Rattle.std.specs.Prelude.{◌≡◌, ◌⊎◌, ℕ, ◌||◌, Bool, if◌then◌else◌, List, codes, Option, Some, None}
 use Rattle.std.specs.Io.KnownBytes.{Appends}
 use Rattle.std.specs.Str.{bytes_eq}
 use Rattle.csv_source.specs.Causes.{Rose}
@@ -18,11 +18,13 @@ abbrev pub asks_help : List (List ℕ) → Bool
 asks_help words =
     bytes_eq (word_at words 0) (codes "help") || is_help_option (word_at words 0) || is_help_option (word_at words 1) || is_help_option (word_at words 2)
 
--- the part of the help that words ask for: the word `help` may name one
+-- the part of the help that a word names
+abbrev pub part_named : List ℕ → OwnText
+part_named word = if bytes_eq word (codes "options") then Options else (if bytes_eq word (codes "report") then Report else Help)
+
+-- the part of the help that words ask for: behind the word `help` one may be named
 abbrev pub help_of : List (List ℕ) → OwnText
-help_of words =
-    if bytes_eq (word_at words 0) (codes "help") && bytes_eq (word_at words 1) (codes "options") then Options
-    else (if bytes_eq (word_at words 0) (codes "help") && bytes_eq (word_at words 1) (codes "report") then Report else Help)
+help_of words = if bytes_eq (word_at words 0) (codes "help") then part_named (word_at words 1) else Help
 
 abbrev pub asks_version : List (List ℕ) → Bool
 asks_version words =

@@ -2,7 +2,7 @@
 ghost use Rattle.std.specs.Prelude.{◌≡◌, None, Some};
 ghost use Rattle.loader_reply.specs.Reply.{texts};
 ghost use Rattle.loader_reply.specs.Replying.{ReadsNoFile};
-ghost use Rattle.program_answer.specs.OwnText.{IsTold, asks_help, asks_version, help_of, is_help_option, own_text};
+ghost use Rattle.program_answer.specs.OwnText.{IsTold, asks_help, asks_version, help_of, is_help_option, own_text, part_named};
 ghost use Rattle.program_answer.specs.declared.answering.OwnText.TheVariants as owns;
 ghost use Rattle.program_answer.specs.ProgramTaps.{program_taps};
 ghost use Rattle.program_answer.specs.RunOf.{IsRun};
@@ -45,17 +45,25 @@ fn asks_help(words: &[String]) -> bool
         || is_help_option(word_at(words, 2))
 }
 
+/// The part of the help that a word names.
+fn part_named(word: &str) -> OwnText
+    ensures { result ≡ part_named word.now }
+{
+    match word {
+        "options" => OwnText::Options,
+        "report" => OwnText::Report,
+        _ => OwnText::Help,
+    }
+}
+
 /// The part of the help that words ask for.
 fn help_of(words: &[String]) -> OwnText
     ensures { result ≡ help_of (texts words.now) }
 {
-    if word_at(words, 0) != "help" {
-        return OwnText::Help;
-    }
-    match word_at(words, 1) {
-        "options" => OwnText::Options,
-        "report" => OwnText::Report,
-        _ => OwnText::Help,
+    if word_at(words, 0) == "help" {
+        part_named(word_at(words, 1))
+    } else {
+        OwnText::Help
     }
 }
 
