@@ -99,7 +99,7 @@ def check_other_calls() -> None:
     assert b"row|2\nrows|1\n" in shell(f"csvload load {name}", parts)[1], name
     typed = advised(["load", "f.csv", "types={'a': 'VARCHAR'}"], parts, "(column_types=.*)")
     assert b"column|0|VARCHAR|a\n" in shell(f"csvload load f.csv {typed}", parts)[1], typed
-    written = advised(["convert", "f.csv", "to=my out.csv"], parts, "(> .*)")
+    written = advised(["convert", "f.csv", "to=my out.csv"], parts, "('output=.*') names")
     same(shell(f"csvload convert f.csv {written} && cat my*out.csv", parts)[1], b"a\n1\n", written)
     delim = advised(["load", "f.csv", "delim="], parts, "('delim=.')")
     assert b"row|1|Ana\n" in shell(f"csvload load h.csv {delim}", {"h.csv": ROWS})[1], delim
@@ -107,7 +107,7 @@ def check_other_calls() -> None:
 
 SCORES = b"# by hand\nname,note,day\nAna,\"x, y\",2024-01-01\nBo,z,2024-01-02\n"
 
-# The words of the specification's own example.
+# What is said of it.
 PASTED = """csvload: csvload load scores.csv 'comment=#' delim=, 'quote="' 'escape="' header=true types=VARCHAR,VARCHAR,DATE\n"""
 
 
@@ -124,6 +124,8 @@ def check_pasted() -> None:
             assert command and not ("\t" in said), said
             same(shell(command[1], files), run(["load", "it's f.csv", *given], files), command[1])
     fixed = {"f.csv": b"id,zip\n1,00501\n"}
+    said = run(["sniff", "f.csv", "sep=,", "output=-x", "dtypes=BIGINT,VARCHAR", "explain=true"], fixed)[2]
+    same(said, """csvload: csvload load f.csv delim=, 'quote="' 'escape="' header=true types=BIGINT,VARCHAR\n""", "second names")
     for word in ["column_types=zip:VARCHAR", "all_varchar=true"]:
         said = run(["sniff", "f.csv", word, "explain=true"], fixed)[2]
         assert f" {word} delim=, " in said and " types=" not in said, said

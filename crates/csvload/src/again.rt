@@ -1,7 +1,7 @@
 // Commands that may be copied, with the words that were given: without them something else would be read.
 use crate::content::Content;
 use crate::excerpt::MOST;
-use crate::given::{FIRST_OPTION, command_word, name_of, subject};
+use crate::given::{FIRST_OPTION, command_word, gives_one_of, subject};
 use crate::glyphs::shown;
 use crate::shell::{shell_file, shell_list, shell_word};
 use csv_source::{NoMemory, STANDARD_INPUT};
@@ -16,7 +16,7 @@ pub fn kept_words(
 ) -> Result<Option<String>, NoMemory> {
     let mut kept = String::new(alloc);
     for word in words.iter().skip(FIRST_OPTION) {
-        if (&*left_out).contains(&name_of(word.as_str())) {
+        if gives_one_of(word.as_str(), left_out) {
             continue;
         }
         let Some(word) = shell_word(alloc, word.as_str())? else {

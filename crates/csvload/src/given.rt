@@ -46,6 +46,17 @@ pub fn value_of(word: &str) -> &str {
     }
 }
 
+/// Whether a word gives one of these options, by its first name or a second one.
+pub fn gives_one_of(word: &str, options: &[&str]) -> bool {
+    let option = option_named(name_of(word).as_bytes());
+    for name in options {
+        if name.as_bytes() == option {
+            return true;
+        }
+    }
+    false
+}
+
 /// The first word that gives the option of that name, by this one or a second one.
 pub fn word_giving<'a>(words: &'a [String], name: &str) -> Option<&'a str> {
     let option = option_named(name.as_bytes());

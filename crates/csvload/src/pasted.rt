@@ -8,8 +8,10 @@ use std::alloc::Global;
 /// What begins the line of the report that has the words.
 const WORDS: &[u8] = b"words|";
 
-/// Options in whose place the words stand, and that of the explanation.
-const REPLACED: [&str; 6] = ["explain", "delim", "quote", "escape", "header", "types"];
+/// Options in whose place the words stand, and those of the explanation.
+const REPLACED: [&str; 7] = [
+    "explain", "output", "delim", "quote", "escape", "header", "types",
+];
 
 /// Whether the words ask why a file was found to be as it is.
 pub fn asks_why(words: &[String]) -> bool {
