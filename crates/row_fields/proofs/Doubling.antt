@@ -1,16 +1,14 @@
 -- Quotes that are doubled: where the next one stands, and what it is by the byte behind it.
-use Rattle.std.proofs.Common.{◌≡◌, ℕ, ◌+◌, ◌<◌, Bool, true, false, cond, List, length, get_or, refl, sym, ◌∙◌, ap, subst, inl, inr, arith}
-use Rattle.std.specs.Prelude.{◌==◌, Option, Some, None}
-use Rattle.std.specs.Option.{option_eq}
-use Rattle.std.proofs.lemmas.Bool.{eqb-true, eqb-false, ne_eqb, cases_lt}
-use lib.Dec.{eqb}
+use Rattle.std.proofs.Common.{◌≡◌, ℕ, ◌+◌, ◌<◌, true, false, cond, List, length, get_or, refl, sym, ◌∙◌, ap, subst, inl, inr, arith}
+use Rattle.std.specs.Prelude.{◌==◌}
+use Rattle.std.proofs.lemmas.Bool.{eqb-true, cases_lt}
 use Rattle.byte_classes.specs.declared.class.Class.{Class}
 use Rattle.byte_classes.specs.declared.class.Class.TheVariants as class
-use Rattle.byte_classes.specs.Dialect.{Marks, IsDialect, is_byte, is_same_byte}
+use Rattle.byte_classes.specs.Dialect.{Marks, IsDialect}
 use Rattle.byte_classes.specs.Class.{class_of}
 use Rattle.byte_classes.specs.Places.{first_place}
 use Rattle.byte_classes.specs.Special.{is_special, next_special}
-use Rattle.byte_classes.proofs.ClassLaws.{class_of-quote, class_of-other}
+use Rattle.byte_classes.proofs.ClassLaws.{class_of-quote}
 use Rattle.byte_classes.proofs.SpecialLaws.{special_inside, found_alike, thrice}
 use Rattle.row_fields.specs.declared.field.Role.TheVariants as role
 use Rattle.quote_automaton.specs.Automaton.{IsDoubling}
@@ -53,33 +51,3 @@ module _ (d : Marks) (q : ℕ) (dialect : IsDialect d) (h : IsDoubling d q) wher
     | inl lt ↦ subst (HasRole d bytes at) (closing_class (class_of d (get_or bytes (at + 1) 0)) (ends lt)) (is_quote_before d bytes at quote lt)
     | inr le ↦ is_last_quote d bytes at quote within (omega (arith, within, le))
   ]
-
-  -- before any other byte
-  breaking_class : (b : ℕ) → (b == q) ≡ false → is_special false (class_of d b) ≡ false → role_before d (class_of d b) ≡ role.Break
-  breaking_class b other no_end =
-      let is : class_of d b ≡ cond (b == 10) class.Lf (cond (b == 13) class.Cr (cond (b == d.delim) class.Delim (cond (is_byte d.comment b) class.Comment class.Other))) =
-      class_of-other d q b h.quote h.escape (eqb-false b q other) in
-      ap (role_before d) is ∙ by_tests (b == 10) (b == 13) (b == d.delim) (is_byte d.comment b) (sym (ap (is_special false) is) ∙ no_end) where
-        by_tests : (lf cr delim comment : Bool) → is_special false (cond lf class.Lf (cond cr class.Cr (cond delim class.Delim (cond comment class.Comment class.Other)))) ≡ false →
-            role_before d (cond lf class.Lf (cond cr class.Cr (cond delim class.Delim (cond comment class.Comment class.Other)))) ≡ role.Break
-        by_tests true cr delim comment e = absurd (let no : ⊥ = cc in no)
-        by_tests false true delim comment e = absurd (let no : ⊥ = cc in no)
-        by_tests false false true comment e = absurd (let no : ⊥ = cc in no)
-        by_tests false false false true e = refl
-        by_tests false false false false e = refl
-
-  pub breaking_role : (bytes : List ℕ) (at : ℕ) → class_of d (get_or bytes at 0) ≡ class.Quote → at + 1 < length bytes → (get_or bytes (at + 1) 0 == q) ≡ false →
-      is_special false (class_of d (get_or bytes (at + 1) 0)) ≡ false → HasRole d bytes at role.Break
-  breaking_role bytes at quote lt other no_end =
-      subst (HasRole d bytes at) (breaking_class (get_or bytes (at + 1) 0) other no_end) (is_quote_before d bytes at quote lt)
-
--- the code's comparison of two marks
-pub same_marks : (quote escape : Option ℕ) (q : ℕ) → option_eq eqb quote escape ≡ true → quote ≡ Some q → escape ≡ Some q
-same_marks None escape q same is = absurd (let no : ⊥ = cc in no)
-same_marks (Some a) None q same is = absurd (let no : ⊥ = cc in no)
-same_marks (Some a) (Some b) q same is = ap Some (sym (eqb-true a b same)) ∙ is
-
-pub other_marks : (quote escape : Option ℕ) → option_eq eqb quote escape ≡ false → is_same_byte quote escape ≡ false
-other_marks None escape other = refl
-other_marks (Some a) None other = refl
-other_marks (Some a) (Some b) other = ne_eqb b a (λ e. eqb-false a b other (sym e))
