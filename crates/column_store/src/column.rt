@@ -15,7 +15,7 @@ use crate::unwrapping::{boolean_in, date_in, number_in, stamp_in, text_in, time_
 use csv_source::NoMemory;
 use std::alloc::Global;
 use value_types::{
-    Cell, ColumnType, Value, cast_bigint_in, cast_boolean, cast_date, cast_time, cast_timestamp,
+    Cell, ColumnType, Value, cast_bigint, cast_boolean, cast_date, cast_time, cast_timestamp,
 };
 
 /// A column: its values in vectors of their type's width.
@@ -120,7 +120,7 @@ impl Column {
         let text = &bytes[from..end];
         match self {
             Column::Boolean(column) => column.push_some(cast_boolean(text), roomy),
-            Column::Bigint(column) => column.push_some(cast_bigint_in(bytes, from, end), roomy),
+            Column::Bigint(column) => column.push_some(cast_bigint(text), roomy),
             Column::Date(column) => column.push_some(cast_date(text), roomy),
             Column::Time(column) => column.push_some(cast_time(text), roomy),
             Column::Timestamp(column) => column.push_some(cast_timestamp(text), roomy),

@@ -186,7 +186,7 @@ begins_ahead bytes from end word first second within fit is =
     (slice_range bytes end (from + 8), subst IsWord parts (IsWord-slice bytes from within fit), is ∙ ap word_of parts)
 
 -- the bytes up to the text's end, moved to the front
-pub begins_behind : (bytes : List ℕ) (from end word : ℕ) → from ≤ end → end ≤ from + 8 → 8 ≤ end → end ≤ length bytes → ((k : ℕ) → k < length bytes → get_or bytes k 0 < 256) →
+begins_behind : (bytes : List ℕ) (from end word : ℕ) → from ≤ end → end ≤ from + 8 → 8 ≤ end → end ≤ length bytes → ((k : ℕ) → k < length bytes → get_or bytes k 0 < 256) →
     word ≡ word_of (slice_range bytes (end - 8) (end - 8 + 8)) → BeginsWord (slice_range bytes from end) (word / 2 ^ (8 * (8 - (end - from))))
 begins_behind bytes from end word first second room within fit is =
     let count : ℕ = end - from in

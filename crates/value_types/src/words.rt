@@ -23,23 +23,6 @@ pub(crate) fn word_at(bytes: &[u8], from: usize) -> u64
     ])
 }
 
-/// A word that begins with the text of one to eight bytes between two places, where there are bytes enough behind or
-/// before it.
-#[inline(always)]
-fn word_of_text(bytes: &[u8], from: usize, end: usize) -> Option<u64>
-    requires within { (from < end) × (end ≤ length bytes.now) }
-    requires few { end ≤ from + 8 }
-    ensures { IfSome result (BeginsWord (slice_range bytes.now from end)) }
-{
-    if bytes.len() - from >= 8 {
-        return Some(word_at(bytes, from));
-    }
-    if end < 8 {
-        return None;
-    }
-    Some(word_at(bytes, end - 8) >> (8 * (8 - (end - from))))
-}
-
 /// What the text at the front of a word is worth as digits, behind as many zeros as make it a word again.
 #[inline(always)]
 fn worths(word: u64, count: usize) -> u64
@@ -82,16 +65,6 @@ fn natural(word: u64, count: usize) -> Option<u64>
     } else {
         None
     }
-}
-
-/// The number that one to eight digits between two places spell; none also where no word can hold them.
-#[inline(always)]
-pub(crate) fn few_digits_in(bytes: &[u8], from: usize, end: usize) -> Option<u64>
-    requires within { (from < end) × (end ≤ length bytes.now) }
-    requires few { end ≤ from + 8 }
-    ensures { IfSome result (λ number. (natural_of (slice_range bytes.now from end) ≡ Some number) × (number < 100_000_000)) }
-{
-    natural(word_of_text(bytes, from, end)?, end - from)
 }
 
 /// What eight bytes spell two by two, each number in the place of its first digit, where they follow a picture. Of its two words

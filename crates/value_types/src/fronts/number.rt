@@ -1,11 +1,10 @@
 // A number of 64 bits at the front of a text that goes on behind it, as a field in its row.
-ghost use Rattle.std.specs.Prelude.{◌≡◌, ◌≤◌, ◌<◌, ◌+◌, ◌^◌, false, true, length, slice_index, slice_range, IfSome, Some};
+ghost use Rattle.std.specs.Prelude.{◌≡◌, ◌≤◌, ◌<◌, ◌+◌, ◌^◌, false, true, length, slice_index, slice_range, IfSome, Some, neg_ℤ, pos};
 ghost use Rattle.std.specs.Char.{is_ascii_digit};
 ghost use Rattle.std.specs.List.{list_all};
 ghost use Rattle.value_types.specs.Cast.{bigint_of, trimmed};
 ghost use Rattle.value_types.specs.Digits.{is_numeral, natural_of};
 
-use crate::bigint_in::negated;
 use crate::words::{digit_count, digits_at, word_at};
 
 /// A number that the bytes from a place on spell, and the place behind its last digit.
@@ -27,6 +26,15 @@ pub fn is_numeral(byte: u8) -> bool
     ensures { result ≡ is_numeral byte }
 {
     byte.is_ascii_digit() || byte == b'-'
+}
+
+/// A number behind a minus.
+#[inline(always)]
+fn negated(number: u64) -> i64
+    requires { number < 2 ^ 63 }
+    ensures { result ≡ neg_ℤ (pos number) }
+{
+    -(number as i64)
 }
 
 /// The number that eight digits at a place spell with up to seven behind them.
@@ -77,7 +85,7 @@ fn digits_front(bytes: &[u8], from: usize) -> Option<FrontDigits>
 }
 
 /// The number that digits from a place on spell, behind a minus if one is there, as many digits as stand there. None where
-/// `cast_bigint_in` has to be asked: at a space or a plus, of more than fifteen digits, and near the bytes' end.
+/// `cast_bigint` has to be asked: at a space or a plus, of more than fifteen digits, and near the bytes' end.
 #[inline(always)]
 pub fn bigint_front(bytes: &[u8], from: usize) -> Option<FrontNumber>
     requires within { from ≤ length bytes.now }
