@@ -1,8 +1,7 @@
 //! Searches and masks against the class of each byte, looked at one by one.
 use super::dialects::{commas, commented, dialect};
 use byte_classes::{
-    Class, Dialect, DialectFault, Masks, Searcher, class_of, equal_to, lanes_at, masks,
-    next_special,
+    Class, Dialect, DialectFault, Masks, class_of, equal_to, lanes_at, masks, next_special,
 };
 
 /// Two fields, a line end and 58 other bytes.
@@ -37,14 +36,12 @@ fn ends_run(class: Class, quoted: bool) -> bool {
     }
 }
 
-/// Whether both searches end at a place, outside quotes and inside, where its byte ends a run, else behind the text.
+/// Whether the searches end at a place, outside quotes and inside, where its byte ends a run, else behind the text.
 fn finds_at(dialect: &Dialect, text: &[u8], at: usize, byte: u8) -> bool {
     for quoted in [false, true] {
         let ends = ends_run(class_of(dialect, byte), quoted);
         let place = if ends { at } else { text.len() };
-        if next_special(dialect, text, 0, quoted) != place
-            || Searcher::new(dialect, text).next_special(0, quoted) != place
-        {
+        if next_special(dialect, text, 0, quoted) != place {
             return false;
         }
     }
