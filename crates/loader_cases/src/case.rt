@@ -1,7 +1,8 @@
 //! A case as a line has it.
 use crate::escapes::unescaped;
+use crate::field::{Field, field_of};
 use csv_source::NoMemory;
-use loader_runs::File;
+use loader_runs::{File, IN_PIECES, Outside, extend};
 use std::alloc::Global;
 
 /// A name, and the bytes under it.
@@ -11,11 +12,21 @@ struct Held<'a> {
     bytes: Vec<u8>,
 }
 
-/// Words, the files that the source holds, and whether the reply is the same in all ranges.
+/// Pieces that cut most lines, and room for all that is written.
+const OUTSIDE: Outside = Outside {
+    room: 100_000,
+    ..IN_PIECES
+};
+
+/// Words, the files that the source holds, how the outside behaves, and what is asked of the reply.
 #[derive(Drop)]
 pub struct Case<'a> {
     pub words: Vec<&'a str>,
     held: Vec<Held<'a>>,
+    pub outside: Outside,
+    /// What is looked for in the text.
+    pub parts: Vec<&'a str>,
+    /// Whether it is the same in all ranges.
     pub in_all_ranges: bool,
 }
 
@@ -25,26 +36,37 @@ impl<'a> Case<'a> {
         let mut case = Case {
             words: Vec::new(alloc),
             held: Vec::new(alloc),
+            outside: OUTSIDE,
+            parts: Vec::new(alloc),
             in_all_ranges: false,
         };
-        for field in line.split('¦') {
-            case.add(alloc, field)?;
+        for text in line.split('¦') {
+            case.add(alloc, field_of(text))?;
         }
         Ok(case)
     }
 
-    /// `NAME<BYTES` is a file, `<BYTES` is `f.csv`, and `>` says that all ranges give the same. Any other field is a word,
-    /// as is one with `=` before `<`.
-    fn add(&mut self, alloc: Global, field: &'a str) -> Result<(), NoMemory> {
-        match field.split_once('<') {
-            Some((name, text)) if !name.contains('=') => self.held.push(Held {
-                name: if name.is_empty() { "f.csv" } else { name },
+    fn add(&mut self, alloc: Global, field: Field<'a>) -> Result<(), NoMemory> {
+        match field {
+            Field::Word(word) => self.words.push(word)?,
+            Field::File(name, text) => self.held.push(Held {
+                name,
                 bytes: unescaped(alloc, text)?,
             })?,
-            None if field == ">" => self.in_all_ranges = true,
-            _ => self.words.push(field)?,
+            Field::More(times, text) => self.extend_last(&unescaped(alloc, text)?, times)?,
+            Field::Setting(name, number) => set(&mut self.outside, name, number),
+            Field::Part(part) => self.parts.push(part)?,
+            Field::InAllRanges => self.in_all_ranges = true,
         }
         Ok(())
+    }
+
+    /// Puts bytes so many times behind those of the last file.
+    fn extend_last(&mut self, bytes: &[u8], times: usize) -> Result<(), NoMemory> {
+        match self.held.last_mut() {
+            Some(held) => extend(&mut held.bytes, bytes, times),
+            None => Ok(()),
+        }
     }
 
     /// The files that the source holds.
@@ -54,5 +76,17 @@ impl<'a> Case<'a> {
             files.push((held.name, held.bytes.as_slice()))?;
         }
         Ok(files)
+    }
+}
+
+/// Sets the most bytes that one call moves, a call that fails, or the room of the sink.
+fn set(outside: &mut Outside, name: &str, number: usize) {
+    match name {
+        "source_piece" => outside.source_piece = number,
+        "source_fails" => outside.failing_source_call = Some(number as u64),
+        "sink_piece" => outside.sink_piece = number,
+        "sink_fails" => outside.failing_sink_call = Some(number as u64),
+        "room" => outside.room = number,
+        _ => {}
     }
 }

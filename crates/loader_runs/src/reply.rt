@@ -25,14 +25,4 @@ impl Reply {
     pub fn is(&self, status: u8, text: &[u8]) -> bool {
         self.status == status && self.text() == text
     }
-
-    /// Whether it has this status, and its text begins so.
-    pub fn begins(&self, status: u8, text: &[u8]) -> bool {
-        self.status == status && self.text().starts_with(text)
-    }
-
-    /// Whether it has this status, and its text ends so.
-    pub fn ends(&self, status: u8, text: &[u8]) -> bool {
-        self.status == status && self.text().ends_with(text)
-    }
 }

@@ -1,8 +1,10 @@
 //! One run over a source and a sink in memory.
+use crate::cut::Cut;
 use crate::outside::Outside;
 use crate::reply::Reply;
 use crate::status::{status_of, words_of};
-use csv_source::{MemorySink, MemorySource, NoMemory, OpenGate};
+use crate::watched::{WatchedSource, Watcher};
+use csv_source::{MemorySink, MemorySource, NoMemory};
 use std::alloc::Global;
 use std::sync::Wait;
 use std::thread::Threads;
@@ -12,13 +14,23 @@ pub type File<'a> = (&'a str, &'a [u8]);
 
 /// Words, the files that the source holds, and how the outside behaves.
 #[derive(Clone, Copy)]
-pub struct Run<'a> {
-    pub words: &'a [&'a str],
-    pub files: &'a [File<'a>],
+pub struct Run<'w, 'f> {
+    pub words: &'w [&'w str],
+    pub files: &'f [File<'f>],
     pub outside: Outside,
+    /// The ranges, where the words give none.
+    pub cut: Option<Cut>,
 }
 
-impl Run<'_> {
+impl Run<'_, '_> {
+    fn words(&self, alloc: Global) -> Result<Vec<String>, NoMemory> {
+        let mut words = words_of(alloc, self.words)?;
+        if let Some(cut) = self.cut {
+            cut.add_to(alloc, &mut words)?;
+        }
+        Ok(words)
+    }
+
     /// A source that holds its files.
     pub fn source(&self, alloc: Global) -> Result<MemorySource, NoMemory> {
         let mut source = MemorySource::new(alloc);
@@ -32,6 +44,7 @@ impl Run<'_> {
         Ok(source)
     }
 
+    /// A sink that has taken nothing.
     pub fn sink(&self, alloc: Global) -> Result<MemorySink, NoMemory> {
         let mut sink = MemorySink::with_room(alloc, self.outside.room)?;
         sink.piece(self.outside.sink_piece);
@@ -41,59 +54,43 @@ impl Run<'_> {
         Ok(sink)
     }
 
-    /// What its words come to, with more words behind them.
-    pub fn reply_with<R: Threads + Wait + Sync>(
+    /// The status that its words come to.
+    fn status<R: Threads + Wait + Sync, W: Watcher>(
         &self,
         rt: &R,
         alloc: Global,
-        more: &mut Vec<String>,
+        watcher: &W,
+        sink: &mut MemorySink,
+    ) -> Result<u8, NoMemory> {
+        let words = self.words(alloc)?;
+        let mut source = WatchedSource::new(self.source(alloc)?, watcher);
+        status_of(rt, alloc, &words, &mut source, sink, watcher)
+    }
+
+    /// What its words come to under a watcher.
+    pub fn reply<R: Threads + Wait + Sync, W: Watcher>(
+        &self,
+        rt: &R,
+        alloc: Global,
+        watcher: &W,
     ) -> Result<Reply, NoMemory> {
-        let mut words = words_of(alloc, self.words)?;
-        words.append(more)?;
-        let mut source = self.source(alloc)?;
         let mut sink = self.sink(alloc)?;
-        let status = status_of(rt, alloc, &words, &mut source, &mut sink, &OpenGate)?;
+        let status = self.status(rt, alloc, watcher, &mut sink)?;
         Ok(Reply::new(status, sink))
     }
 
-    /// What its words come to.
-    pub fn reply<R: Threads + Wait + Sync>(
+    /// Whether under a watcher its words come to this status and this text.
+    pub fn comes_to<R: Threads + Wait + Sync, W: Watcher>(
         &self,
         rt: &R,
         alloc: Global,
-    ) -> Result<Reply, NoMemory> {
-        self.reply_with(rt, alloc, &mut Vec::new(alloc))
-    }
-
-    /// Whether they come to this status and this text.
-    pub fn comes_to<R: Threads + Wait + Sync>(
-        &self,
-        rt: &R,
-        alloc: Global,
+        watcher: &W,
         status: u8,
         text: &[u8],
-    ) -> Result<bool, NoMemory> {
-        Ok(self.reply(rt, alloc)?.is(status, text))
-    }
-    /// Whether they come to this status and a text that begins so.
-    pub fn begins<R: Threads + Wait + Sync>(
-        &self,
-        rt: &R,
-        alloc: Global,
-        status: u8,
-        text: &[u8],
-    ) -> Result<bool, NoMemory> {
-        Ok(self.reply(rt, alloc)?.begins(status, text))
-    }
-
-    /// Whether they come to this status and a text that ends so.
-    pub fn ends<R: Threads + Wait + Sync>(
-        &self,
-        rt: &R,
-        alloc: Global,
-        status: u8,
-        text: &[u8],
-    ) -> Result<bool, NoMemory> {
-        Ok(self.reply(rt, alloc)?.ends(status, text))
+    ) -> bool {
+        match self.reply(rt, alloc, watcher) {
+            Ok(reply) => reply.is(status, text),
+            Err(NoMemory) => false,
+        }
     }
 }

@@ -1,125 +1,65 @@
 //! How often a load claims and scans each range, whatever the number of workers.
-use csv_source::{Gate, MemorySink, NoMemory};
-use loader_runs::{Cut, File, ROOMY, Run, repeated, status_of, words_of};
+use csv_source::{Gate, NoMemory};
+use loader_runs::{Cut, File, ROOMY, Run, Watcher, extend};
 use std::alloc::Global;
 use std::sync::Wait;
 use std::sync::atomic::{AtomicU64, Ordering};
-use std::test::Fail;
 use std::thread::Threads;
 
-/// How often one range was claimed, and the states of its scans in order, each one more than its number, in hex digits.
-#[derive(Drop)]
-struct Seen {
-    claims: AtomicU64,
-    scans: AtomicU64,
-}
-
-impl Seen {
-    fn new() -> Seen {
-        Seen {
-            claims: AtomicU64::new(0),
-            scans: AtomicU64::new(0),
-        }
-    }
-}
-
-/// Counts the claims and the scans of all ranges, and keeps those of the first five.
+/// Counts the claims and the scans.
 #[derive(Drop)]
 struct Counting {
-    all: Seen,
-    first: [Seen; 5],
+    claims: AtomicU64,
+    scans: AtomicU64,
+    /// The claims of the first five ranges, each in a digit of four bits, the first range in the last digit.
+    first_claims: AtomicU64,
+    /// The states of their scans, each one more than its number, in three such digits a range.
+    first_scans: AtomicU64,
 }
 
 impl Gate for Counting {
     fn claimed(&self, _worker: u32, range: u64) {
-        self.all.claims.fetch_add(1, Ordering::SeqCst);
+        self.claims.fetch_add(1, Ordering::SeqCst);
         if range < 5 {
-            self.first[range as usize]
-                .claims
-                .fetch_add(1, Ordering::SeqCst);
+            self.first_claims
+                .fetch_add(1 << (4 * range), Ordering::SeqCst);
         }
     }
 
     fn scanning(&self, _worker: u32, range: u64, state: u8) {
-        self.all.scans.fetch_add(1, Ordering::SeqCst);
+        self.scans.fetch_add(1, Ordering::SeqCst);
         if range < 5 {
-            let scans = &self.first[range as usize].scans;
-            let before = scans.load(Ordering::SeqCst) % 256;
-            scans.store(16 * before + u64::from(state % 15) + 1, Ordering::SeqCst);
+            let place = 12 * range;
+            let before = (self.first_scans.load(Ordering::SeqCst) >> place) % 256;
+            let more = 15 * before + u64::from(state % 15) + 1;
+            self.first_scans.fetch_add(more << place, Ordering::SeqCst);
         }
     }
 }
 
-/// What a gate has seen of a range, or of all.
-fn told_of(seen: &Seen) -> (u64, u64) {
-    let Seen { claims, scans } = seen;
-    (claims.load(Ordering::SeqCst), scans.load(Ordering::SeqCst))
+impl Watcher for Counting {
+    fn reading(&self, _given: u64) {}
 }
 
 impl Counting {
     fn new() -> Counting {
         Counting {
-            all: Seen::new(),
-            first: [
-                Seen::new(),
-                Seen::new(),
-                Seen::new(),
-                Seen::new(),
-                Seen::new(),
-            ],
+            claims: AtomicU64::new(0),
+            scans: AtomicU64::new(0),
+            first_claims: AtomicU64::new(0),
+            first_scans: AtomicU64::new(0),
         }
     }
 
-    /// Of each of the first five ranges, how often it was claimed and how it was scanned.
-    fn seen(&self) -> [(u64, u64); 5] {
-        let mut seen = [(0u64, 0u64); 5];
-        for range in 0..5usize {
-            seen[range] = told_of(&self.first[range]);
-        }
-        seen
+    fn has_counted(&self, claims: u64, scans: u64) -> bool {
+        self.claims.load(Ordering::SeqCst) == claims && self.scans.load(Ordering::SeqCst) == scans
+    }
+
+    fn has_noted(&self, claims: u64, scans: u64) -> bool {
+        self.first_claims.load(Ordering::SeqCst) == claims
+            && self.first_scans.load(Ordering::SeqCst) == scans
     }
 }
-
-/// What came of a counted run.
-#[derive(Drop)]
-struct CountedRun {
-    status: u8,
-    sink: MemorySink,
-    gate: Counting,
-}
-
-impl CountedRun {
-    /// Whether a report that ends so was written.
-    fn ends(&self, text: &[u8]) -> bool {
-        let taken = self.sink.taken();
-        self.status == 0 && taken.starts_with(FOUND) && taken.ends_with(text)
-    }
-}
-
-/// What the words come to in such ranges.
-fn counted_run<R: Threads + Wait + Sync>(
-    rt: &R,
-    alloc: Global,
-    words: &[&str],
-    files: &[File<'_>],
-    cut: Cut,
-) -> Result<CountedRun, NoMemory> {
-    let run = Run {
-        words,
-        files,
-        outside: ROOMY,
-    };
-    let mut words = words_of(alloc, words)?;
-    words.append(&mut cut.words(alloc)?)?;
-    let mut source = run.source(alloc)?;
-    let mut sink = run.sink(alloc)?;
-    let gate = Counting::new();
-    let status = status_of(rt, alloc, &words, &mut source, &mut sink, &gate)?;
-    Ok(CountedRun { status, sink, gate })
-}
-
-const FOUND: &[u8] = b"options|delim=,|quote=\"|escape=\"|newline=\\n|skip=0|header=false\n\
-column|0|VARCHAR|column0\n";
 
 const LOAD_PLAIN: &[&str] = &[
     "load",
@@ -131,7 +71,11 @@ const LOAD_PLAIN: &[&str] = &[
     "stats=true",
 ];
 
-const TWO_ROWS: &[u8] = b"column|1|VARCHAR|column1\n\
+const PLAIN: &[File<'static>] = &[("f.csv", b"x,5\"y\n1,2\n")];
+
+const TWO_ROWS: &[u8] = b"options|delim=,|quote=\"|escape=\"|newline=\\n|skip=0|header=false\n\
+column|0|VARCHAR|column0\n\
+column|1|VARCHAR|column1\n\
 row|x|5\"y\n\
 row|1|2\n\
 rows|2\n\
@@ -140,41 +84,36 @@ stats|ranges=5|rescans=2|scanned=14\n";
 
 /// Whether on so many threads five ranges are claimed once each. Each is scanned in its guess, range 1 once more in
 /// FieldStart and range 2 in Plain.
-fn five_are_claimed_once<R: Threads + Wait + Sync>(
-    rt: &R,
-    alloc: Global,
-    threads: usize,
-) -> Result<bool, NoMemory> {
-    let cut = Cut {
-        range_size: 2,
-        threads,
+fn five_are_claimed_once<R: Threads + Wait + Sync>(rt: &R, alloc: Global, threads: usize) -> bool {
+    let counting = Counting::new();
+    let run = Run {
+        words: LOAD_PLAIN,
+        files: PLAIN,
+        outside: ROOMY,
+        cut: Some(Cut {
+            range_size: 2,
+            threads,
+        }),
     };
-    let run = counted_run(rt, alloc, LOAD_PLAIN, &[("f.csv", b"x,5\"y\n1,2\n")], cut)?;
-    let seen = [(1, 0x1), (1, 0x42), (1, 0x63), (1, 0x1), (1, 0x2)];
-    Ok(run.ends(TWO_ROWS) && run.gate.seen() == seen && told_of(&run.gate.all) == (5, 7))
+    run.comes_to(rt, alloc, &counting, 0, TWO_ROWS)
+        && counting.has_counted(5, 7)
+        && counting.has_noted(0x11111, 0x002_001_063_042_001)
 }
 
 #[test]
-fn each_range_is_claimed_once_and_scanned_again_where_it_differs(
-    rt: HostRuntime,
-) -> Result<(), Fail> {
-    for threads in [1, 2, 4] {
-        assert!(rt;
-            five_are_claimed_once(&rt, rt.alloc(), threads)?,
-            "{threads}"
-        );
+fn each_range_is_claimed_once_and_scanned_again_where_it_differs(rt: HostRuntime) {
+    for threads in 1..5usize {
+        assert!(rt; five_are_claimed_once(&rt, rt.alloc(), threads));
     }
-    Ok(())
 }
 
 /// Rows of 50,000 bytes, more than are read before a row is looked for, and behind them three rows of 200,001 bytes.
 fn long_rows(alloc: Global) -> Result<Vec<u8>, NoMemory> {
-    let mut row = repeated(alloc, b"x", 49_999)?;
-    row.push(b'\n')?;
-    let mut input = repeated(alloc, &row, 86)?;
-    let mut row = repeated(alloc, b"y", 200_000)?;
-    row.push(b'\n')?;
-    input.extend_from_slice(&repeated(alloc, &row, 3)?)?;
+    let mut input = Vec::new(alloc);
+    for row in 0..89u32 {
+        extend(&mut input, b"x", if row < 86 { 49_999 } else { 200_000 })?;
+        extend(&mut input, b"\n", 1)?;
+    }
     Ok(input)
 }
 
@@ -190,7 +129,10 @@ const SUM_LONG_ROWS: &[&str] = &[
     "stats=true",
 ];
 
-const LONG_ROWS_SUMMED: &[u8] = b"rows|89\n\
+const LONG_ROWS_SUMMED: &[u8] =
+    b"options|delim=,|quote=\"|escape=\"|newline=\\n|skip=0|header=false\n\
+column|0|VARCHAR|column0\n\
+rows|89\n\
 errors|0|0\n\
 tap|count|89|89\n\
 tap|width|0|200000\n\
@@ -204,27 +146,32 @@ fn long_rows_are_scanned<R: Threads + Wait + Sync>(
     input: &[u8],
     threads: usize,
     scans: u64,
-) -> Result<bool, NoMemory> {
-    let cut = Cut {
-        range_size: 50_000,
-        threads,
+) -> bool {
+    let counting = Counting::new();
+    let run = Run {
+        words: SUM_LONG_ROWS,
+        files: &[("f.csv", input)],
+        outside: ROOMY,
+        cut: Some(Cut {
+            range_size: 50_000,
+            threads,
+        }),
     };
-    let run = counted_run(rt, alloc, SUM_LONG_ROWS, &[("f.csv", input)], cut)?;
-    Ok(run.ends(LONG_ROWS_SUMMED) && told_of(&run.gate.all) == (99, scans))
+    run.comes_to(rt, alloc, &counting, 0, LONG_ROWS_SUMMED) && counting.has_counted(99, scans)
 }
 
-// One worker holds some 65,536 bytes behind a range at first. So the first range of each long row is scanned once more,
-// when so much is held as a row may have.
+/// Whether they are, on one, two and four threads. One worker holds some 65,536 bytes behind a range at first. So the first
+/// range of each long row is scanned once more, when so much is held as a row may have.
+fn long_rows_are_counted<R: Threads + Wait + Sync>(rt: &R, alloc: Global) -> bool {
+    let Ok(input) = long_rows(alloc) else {
+        return false;
+    };
+    long_rows_are_scanned(rt, alloc, &input, 1, 102)
+        && long_rows_are_scanned(rt, alloc, &input, 2, 99)
+        && long_rows_are_scanned(rt, alloc, &input, 4, 99)
+}
+
 #[test]
-fn a_range_whose_row_goes_on_behind_what_is_held_is_scanned_once_more(
-    rt: HostRuntime,
-) -> Result<(), Fail> {
-    let input = long_rows(rt.alloc())?;
-    for (threads, scans) in [(1, 102), (2, 99), (4, 99)] {
-        assert!(rt;
-            long_rows_are_scanned(&rt, rt.alloc(), &input, threads, scans)?,
-            "{threads}"
-        );
-    }
-    Ok(())
+fn a_range_whose_row_goes_on_behind_what_is_held_is_scanned_once_more(rt: HostRuntime) {
+    assert!(rt; long_rows_are_counted(&rt, rt.alloc()));
 }

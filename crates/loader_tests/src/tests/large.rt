@@ -1,10 +1,8 @@
 //! Many made rows.
-use super::one_file::{listed, one_file};
-use csv_source::{MemorySink, MemorySource, NoMemory, OpenGate};
-use loader_runs::{Outside, Run, WHOLE, status_of, words_of};
+use csv_source::OpenGate;
+use loader_runs::{Cut, Outside, Run, WHOLE};
 use std::alloc::Global;
 use std::sync::Wait;
-use std::test::Fail;
 use std::thread::Threads;
 
 /// Room for the made rows.
@@ -13,14 +11,13 @@ const VAST: Outside = Outside {
     ..WHOLE
 };
 
-/// The text of `make 7 rows=800000`, some 40 MB.
-pub fn made<R: Threads + Wait + Sync>(rt: &R, alloc: Global) -> Result<MemorySink, NoMemory> {
-    let words = words_of(alloc, &["make", "7", "rows=800000"])?;
-    let mut source = MemorySource::new(alloc);
-    let mut sink = MemorySink::with_room(alloc, VAST.room)?;
-    status_of(rt, alloc, &words, &mut source, &mut sink, &OpenGate)?;
-    Ok(sink)
-}
+/// Some 40 MB.
+const MAKE: Run<'static, 'static> = Run {
+    words: &["make", "7", "rows=800000"],
+    files: &[],
+    outside: VAST,
+    cut: None,
+};
 
 const MANY_SUMMED: &[u8] = b"options|delim=,|quote=\"|escape=\"|newline=\\n|skip=0|header=true\n\
 column|0|BIGINT|id\n\
@@ -34,88 +31,109 @@ tap|span|0|0|799999\n\
 tap|width|3|22\n\
 tap|over|1001\n";
 
-/// Whether the words come to this with the made rows as the file `f.csv`.
-fn comes_to<R: Threads + Wait + Sync>(
-    rt: &R,
-    alloc: Global,
-    words: &[&str],
+/// Words, how the outside behaves, and what they are to come to.
+#[derive(Clone, Copy)]
+struct Asked {
+    words: &'static [&'static str],
     outside: Outside,
-    wanted: (u8, &[u8]),
-) -> Result<bool, NoMemory> {
-    let (status, text) = wanted;
-    let made = made(rt, alloc)?;
-    let (words, files) = (
-        listed(alloc, words)?,
-        one_file(alloc, "f.csv", made.taken())?,
-    );
-    let run = Run {
-        words: &words,
-        files: &files,
-        outside,
-    };
-    run.comes_to(rt, alloc, status, text)
+    status: u8,
+    /// None: the rows themselves.
+    text: Option<&'static [u8]>,
 }
 
-const PIPED: &[&str] = &["summary", "f.csv", "pipeline=true", "threads=4"];
+const SUMMARY: Asked = Asked {
+    words: &["summary", "f.csv"],
+    outside: WHOLE,
+    status: 0,
+    text: Some(MANY_SUMMED),
+};
 
-#[test]
-fn many_made_rows_have_their_summary(rt: HostRuntime) -> Result<(), Fail> {
-    let wanted = (0, MANY_SUMMED);
-    assert!(rt; comes_to(&rt, rt.alloc(), &["summary", "f.csv"], WHOLE, wanted)?);
-    for threads in ["threads=1", "threads=4", "threads=8"] {
-        let words = &["summary", "f.csv", threads];
-        assert!(rt;
-            comes_to(&rt, rt.alloc(), words, WHOLE, wanted)?,
-            "{threads}"
-        );
-    }
-    Ok(())
-}
+const PIPED: Asked = Asked {
+    words: &["summary", "f.csv", "pipeline=true"],
+    ..SUMMARY
+};
 
-#[test]
-fn many_made_rows_have_their_summary_while_more_is_read(rt: HostRuntime) -> Result<(), Fail> {
-    assert!(rt; comes_to(&rt, rt.alloc(), PIPED, WHOLE, (0, MANY_SUMMED))?);
-    Ok(())
-}
-
-// The input takes some 600 calls.
-#[test]
-fn a_call_that_fails_while_stages_scan_is_a_read_fault(rt: HostRuntime) -> Result<(), Fail> {
-    let outside = Outside {
+/// The input takes some 600 calls.
+const TORN: Asked = Asked {
+    outside: Outside {
         source_piece: 65_536,
         failing_source_call: Some(200),
         ..WHOLE
-    };
-    assert!(rt; comes_to(&rt, rt.alloc(), PIPED, outside, (2, b"fault|read\n"))?);
-    Ok(())
-}
+    },
+    status: 2,
+    text: Some(b"fault|read\n"),
+    ..PIPED
+};
 
-/// Whether the made rows are written as they are.
-fn is_written_as_it_is<R: Threads + Wait + Sync>(
+const CONVERT: Asked = Asked {
+    words: &[
+        "convert",
+        "f.csv",
+        "header=true",
+        "types=BIGINT,BOOLEAN,DATE,VARCHAR",
+    ],
+    outside: VAST,
+    status: 0,
+    text: None,
+};
+
+/// Whether on so many threads the rows come to what is asked.
+fn come_to<R: Threads + Wait + Sync>(
     rt: &R,
     alloc: Global,
-    threads: &str,
-) -> Result<bool, NoMemory> {
-    let made = made(rt, alloc)?;
-    let files = one_file(alloc, "f.csv", made.taken())?;
+    rows: &[u8],
+    asked: &Asked,
+    threads: usize,
+) -> bool {
     let run = Run {
-        words: &[
-            "convert",
-            "f.csv",
-            "header=true",
-            "types=BIGINT,BOOLEAN,DATE,VARCHAR",
+        words: asked.words,
+        files: &[("f.csv", rows)],
+        outside: asked.outside,
+        cut: Some(Cut {
+            range_size: 1_048_576,
             threads,
-        ],
-        files: &files,
-        outside: VAST,
+        }),
     };
-    run.comes_to(rt, alloc, 0, made.taken())
+    let text = asked.text.unwrap_or(rows);
+    run.comes_to(rt, alloc, &OpenGate, asked.status, text)
+}
+
+/// Whether the made rows do.
+fn made_rows_come_to<R: Threads + Wait + Sync>(
+    rt: &R,
+    alloc: Global,
+    asked: &Asked,
+    threads: usize,
+) -> bool {
+    match MAKE.reply(rt, alloc, &OpenGate) {
+        Ok(made) => come_to(rt, alloc, made.text(), asked, threads),
+        Err(_) => false,
+    }
+}
+
+/// Whether they do on one, four and eight threads.
+fn always_come_to<R: Threads + Wait + Sync>(rt: &R, alloc: Global, asked: &Asked) -> bool {
+    made_rows_come_to(rt, alloc, asked, 1)
+        && made_rows_come_to(rt, alloc, asked, 4)
+        && made_rows_come_to(rt, alloc, asked, 8)
 }
 
 #[test]
-fn many_made_rows_are_written_as_they_are(rt: HostRuntime) -> Result<(), Fail> {
-    for threads in ["threads=1", "threads=8"] {
-        assert!(rt; is_written_as_it_is(&rt, rt.alloc(), threads)?, "{threads}");
-    }
-    Ok(())
+fn many_made_rows_have_their_summary(rt: HostRuntime) {
+    assert!(rt; always_come_to(&rt, rt.alloc(), &SUMMARY));
+}
+
+#[test]
+fn many_made_rows_have_their_summary_while_more_is_read(rt: HostRuntime) {
+    assert!(rt; made_rows_come_to(&rt, rt.alloc(), &PIPED, 4));
+}
+
+#[test]
+fn a_call_that_fails_while_stages_scan_is_a_read_fault(rt: HostRuntime) {
+    assert!(rt; made_rows_come_to(&rt, rt.alloc(), &TORN, 4));
+}
+
+#[test]
+fn many_made_rows_are_written_as_they_are(rt: HostRuntime) {
+    assert!(rt; always_come_to(&rt, rt.alloc(), &CONVERT));
 }

@@ -1,13 +1,9 @@
 //! The reading of an input beside the scans of what was read of it.
-ghost use Rattle.std.specs.Prelude.{Some};
-
-use super::large::made;
-use csv_source::{Failed, Gate, MemorySink, MemorySource, NoMemory, OpenGate, Source};
-use loader_runs::{status_of, words_of};
+use csv_source::{Gate, NoMemory};
+use loader_runs::{File, Outside, Run, WHOLE, Watcher, repeated};
 use std::alloc::Global;
 use std::sync::Wait;
 use std::sync::atomic::{AtomicU64, Ordering};
-use std::test::Fail;
 use std::thread::Threads;
 
 /// How often one looks for the other before it gives up.
@@ -16,20 +12,18 @@ const TURNS: u64 = 1_000_000_000;
 /// How many bytes are read before a scan has to have begun.
 const AHEAD: u64 = 8_388_608;
 
-/// How many bytes the input has.
-const FRONT: usize = 12_000_000;
-
-/// Whether a scan has begun, whether the reading is far ahead, and how often one gave up.
+/// Holds the scans until the reading is far ahead, and there the reading until a scan has begun.
 #[derive(Drop)]
-struct Flags {
+struct Meeting {
     scanning: AtomicU64,
     ahead: AtomicU64,
+    /// How often one gave up.
     given_up: AtomicU64,
 }
 
-impl Flags {
-    fn new() -> Flags {
-        Flags {
+impl Meeting {
+    fn new() -> Meeting {
+        Meeting {
             scanning: AtomicU64::new(0),
             ahead: AtomicU64::new(0),
             given_up: AtomicU64::new(0),
@@ -51,110 +45,68 @@ impl Flags {
     }
 }
 
-/// Holds the scans until the reading is far ahead.
-#[derive(Drop)]
-struct Meeting<'a> {
-    flags: &'a Flags,
-}
-
-impl Gate for Meeting<'_> {
+impl Gate for Meeting {
     fn claimed(&self, _worker: u32, _range: u64) {}
 
     fn scanning(&self, _worker: u32, _range: u64, _state: u8) {
-        self.flags.meet(&self.flags.scanning, &self.flags.ahead);
+        self.meet(&self.scanning, &self.ahead);
     }
 }
 
-/// Far ahead it reads on only when a scan has begun.
-#[derive(Drop)]
-struct Waiting<'a> {
-    source: MemorySource,
-    given: u64,
-    flags: &'a Flags,
-}
-
-impl Source for Waiting<'_> {
-    ghost held = { λ s. Some s.source.files };
-
-    ghost left = { λ s. Some s.source.left };
-
-    ghost faults = { λ s. s.source.calls.faults };
-
-    fn open(&mut self, name: &str) -> Result<(), Failed> {
-        self.source.open(name)
-    }
-
-    fn read(&mut self, buf: &mut [u8]) -> Result<usize, Failed> {
-        if self.given >= AHEAD {
-            self.flags.meet(&self.flags.ahead, &self.flags.scanning);
+impl Watcher for Meeting {
+    fn reading(&self, given: u64) {
+        if given >= AHEAD {
+            self.meet(&self.ahead, &self.scanning);
         }
-        let count = self.source.read(buf)?;
-        self.given = self.given.saturating_add(count as u64);
-        Ok(count)
     }
-}
-
-/// A source that holds `f.csv`, and gives it in pieces of 65,536 bytes.
-fn pieces_of(alloc: Global, input: &[u8]) -> Result<MemorySource, NoMemory> {
-    let mut source = MemorySource::new(alloc);
-    source.put("f.csv", input)?;
-    source.piece(65_536);
-    Ok(source)
 }
 
 const PIPED: &[&str] = &[
     "summary",
     "f.csv",
+    "delim=,",
+    "header=false",
     "pipeline=true",
     "threads=2",
     "range_size=16384",
     "max_line_size=1000",
-    "ignore_errors=true",
 ];
 
-const ON_ONE_THREAD: &[&str] = &["summary", "f.csv", "threads=1", "ignore_errors=true"];
+/// The summary of a million rows of twelve bytes.
+const SUMMED: &[u8] = b"options|delim=,|quote=\"|escape=\"|newline=\\n|skip=0|header=false\n\
+column|0|BIGINT|column0\n\
+column|1|VARCHAR|column1\n\
+rows|1000000\n\
+errors|0|0\n\
+tap|count|1000000|2000000\n\
+tap|span|0|1234567|1234567\n\
+tap|width|1|3\n\
+tap|distinct|1\n";
 
-/// The summary of an input on one thread, which reads and scans in turn.
-fn summed<R: Threads + Wait + Sync>(
-    rt: &R,
-    alloc: Global,
-    input: &[u8],
-) -> Result<MemorySink, NoMemory> {
-    let words = words_of(alloc, ON_ONE_THREAD)?;
-    let mut source = pieces_of(alloc, input)?;
-    let mut sink = MemorySink::with_room(alloc, 1000)?;
-    status_of(rt, alloc, &words, &mut source, &mut sink, &OpenGate)?;
-    Ok(sink)
-}
-
-/// Whether the scans wait for the reading, the reading for a scan, and neither in vain.
-fn meet<R: Threads + Wait + Sync>(rt: &R, alloc: Global, input: &[u8]) -> Result<bool, NoMemory> {
-    let flags = Flags::new();
-    let mut source = Waiting {
-        source: pieces_of(alloc, input)?,
-        given: 0,
-        flags: &flags,
+/// Whether over an input the scans wait for the reading, the reading for a scan, and neither in vain.
+fn meet<R: Threads + Wait + Sync>(rt: &R, alloc: Global, input: &[u8]) -> bool {
+    let meeting = Meeting::new();
+    let run = Run {
+        words: PIPED,
+        files: &[("f.csv", input)],
+        outside: Outside {
+            source_piece: 65_536,
+            ..WHOLE
+        },
+        cut: None,
     };
-    let mut sink = MemorySink::with_room(alloc, 1000)?;
-    let words = words_of(alloc, PIPED)?;
-    let gate = Meeting { flags: &flags };
-    let status = status_of(rt, alloc, &words, &mut source, &mut sink, &gate)?;
-    let is_met = status == 0 && flags.given_up.load(Ordering::SeqCst) == 0;
-    Ok(is_met && sink.taken() == summed(rt, alloc, input)?.taken())
+    run.comes_to(rt, alloc, &meeting, 0, SUMMED) && meeting.given_up.load(Ordering::SeqCst) == 0
 }
 
-/// Whether they do so over the front of many made rows.
-fn made_rows_meet<R: Threads + Wait + Sync>(rt: &R, alloc: Global) -> Result<bool, NoMemory> {
-    let text = made(rt, alloc)?;
-    let input = text.taken();
-    if input.len() < FRONT {
-        return Ok(false);
+/// Whether they do so over a million rows.
+fn many_rows_meet<R: Threads + Wait + Sync>(rt: &R, alloc: Global) -> bool {
+    match repeated(alloc, b"1234567,abc\n", 1_000_000) {
+        Ok(input) => meet(rt, alloc, &input),
+        Err(NoMemory) => false,
     }
-    meet(rt, alloc, &input[..FRONT])
 }
 
 #[test]
-fn scans_and_the_reading_go_on_beside_each_other(rt: HostRuntime) -> Result<(), Fail> {
-    assert!(rt; made_rows_meet(&rt, rt.alloc())?);
-    Ok(())
+fn scans_and_the_reading_go_on_beside_each_other(rt: HostRuntime) {
+    assert!(rt; many_rows_meet(&rt, rt.alloc()));
 }

@@ -6,10 +6,9 @@ ghost use Rattle.column_taps.specs.Seen.{nothing_seen};
 use column_taps::{CountTap, DistinctTap, RowTap, TapKind, Tapped};
 use csv_loader::run;
 use csv_source::{MemorySink, MemorySource, NoMemory, OpenGate};
-use loader_runs::{hand_in, words_of};
+use loader_runs::{ROOMY, Run, hand_in, words_of};
 use std::alloc::Global;
 use std::sync::Wait;
-use std::test::Fail;
 use std::thread::Threads;
 use value_types::Cells;
 
@@ -46,32 +45,49 @@ impl RowTap for RowByRow {
     }
 }
 
-/// Whether a summary of a column of four texts ends so, with a tap that counts, one of at most so many different texts, and
-/// that once more row by row.
-fn summary_ends<R: Threads + Wait + Sync>(
+/// A summary of one column of texts.
+const TEXTS: Run<'static, 'static> = Run {
+    words: &["summary", "f.csv", "types=VARCHAR", "header=false"],
+    files: &[("f.csv", b"a\nb\na\nc\nd\n")],
+    outside: ROOMY,
+    cut: None,
+};
+
+/// The status of the summary with a tap that counts, one of at most so many different texts, and that once more row by row.
+fn sum_up<R: Threads + Wait + Sync>(
+    rt: &R,
+    alloc: Global,
+    source: &mut MemorySource,
+    sink: &mut MemorySink,
+    most: u64,
+) -> Result<u8, NoMemory> {
+    let words = words_of(alloc, TEXTS.words)?;
+    let mut taps: Vec<Box<dyn RowTap>> = Vec::new(alloc);
+    hand_in(&mut taps, Box::new(alloc, CountTap::new())?)?;
+    hand_in(&mut taps, Box::new(alloc, DistinctTap::new(alloc, most))?)?;
+    hand_in(&mut taps, Box::new(alloc, RowByRow::new(alloc, most))?)?;
+    Ok(run(rt, alloc, &words, source, sink, &OpenGate, taps))
+}
+
+/// Whether the summary ends so.
+fn ends<R: Threads + Wait + Sync>(
     rt: &R,
     alloc: Global,
     most: u64,
     rest: &[u8],
 ) -> Result<bool, NoMemory> {
-    let words = ["summary", "f.csv", "types=VARCHAR", "header=false"];
-    let words = words_of(alloc, &words)?;
-    let mut source = MemorySource::new(alloc);
-    source.put("f.csv", b"a\nb\na\nc\nd\n")?;
-    let mut sink = MemorySink::with_room(alloc, 1000)?;
-    let mut taps: Vec<Box<dyn RowTap>> = Vec::new(alloc);
-    hand_in(&mut taps, Box::new(alloc, CountTap::new())?)?;
-    hand_in(&mut taps, Box::new(alloc, DistinctTap::new(alloc, most))?)?;
-    hand_in(&mut taps, Box::new(alloc, RowByRow::new(alloc, most))?)?;
-    let status = run(rt, alloc, &words, &mut source, &mut sink, &OpenGate, taps);
+    let mut source = TEXTS.source(alloc)?;
+    let mut sink = TEXTS.sink(alloc)?;
+    let status = sum_up(rt, alloc, &mut source, &mut sink, most)?;
     Ok(status == 0 && sink.taken().ends_with(rest))
 }
 
+const OVER: &[u8] = b"rows|5\nerrors|0|0\ntap|count|5|5\ntap|over|4\ntap|over|4\n";
+
+const WITHIN: &[u8] = b"rows|5\nerrors|0|0\ntap|count|5|5\ntap|distinct|4\ntap|distinct|4\n";
+
 #[test]
-fn a_tap_over_its_bound_names_the_row_and_one_at_it_goes_on(rt: HostRuntime) -> Result<(), Fail> {
-    let over = b"rows|5\nerrors|0|0\ntap|count|5|5\ntap|over|4\ntap|over|4\n";
-    assert!(rt; summary_ends(&rt, rt.alloc(), 2, over)?);
-    let within = b"rows|5\nerrors|0|0\ntap|count|5|5\ntap|distinct|4\ntap|distinct|4\n";
-    assert!(rt; summary_ends(&rt, rt.alloc(), 4, within)?);
-    Ok(())
+fn a_tap_over_its_bound_names_the_row_and_one_at_it_goes_on(rt: HostRuntime) {
+    assert!(rt; matches!(ends(&rt, rt.alloc(), 2, OVER), Ok(true)));
+    assert!(rt; matches!(ends(&rt, rt.alloc(), 4, WITHIN), Ok(true)));
 }
