@@ -1,15 +1,14 @@
--- A search for the quote that ends where the sample ends.
-use Rattle.std.proofs.Common.{◌≡◌, ℕ, Bool, true, false, not, List, length, get_or, sym, ◌∙◌, ap, subst, inl, inr, arith}
-use Rattle.std.specs.Prelude.{◌==◌, All, Some}
+-- Bytes that a sample doesn't have: a search for one ends where the sample ends.
+use Rattle.std.proofs.Common.{◌≡◌, ℕ, Bool, true, false, not, List, length, get_or, refl, sym, ◌∙◌, ap, subst, inl, inr, arith}
+use Rattle.std.specs.Prelude.{◌==◌, All, Option, None, Some}
 use Rattle.std.specs.List.{list_any}
 use Rattle.std.proofs.lemmas.Bool.{cases_lt, cases_Bool, eq-eqb, ne_eqb}
 use Rattle.std.proofs.lemmas.List.{get_or_default}
 use Rattle.std.proofs.lemmas.List.Folds.{list_any_at, list_any_none}
-use Rattle.byte_classes.specs.Dialect.{Marks, is_byte}
+use Rattle.byte_classes.specs.Dialect.{is_byte}
 use Rattle.byte_classes.specs.Places.{first_place}
 use Rattle.byte_classes.proofs.SearchLaws.{Tells, first_place-tells}
-use Rattle.row_fields.specs.Fields.{is_quote}
-use Rattle.dialect_rank.specs.Absent.{is_absent}
+use Rattle.dialect_rank.specs.Absent.{is_absent, lacks}
 
 other_way : (a b : ℕ) → (a == b) ≡ false → (b == a) ≡ false
 other_way a b h = grind arith
@@ -25,9 +24,13 @@ absent-is sample wanted r found =
           ∙ sym (ap not (list_any_none (λ b. b == wanted) sample (λ k other lt. ap (λ b. b == wanted) (get_or_default sample k other 0 lt) ∙ h.none k (omega arith) (omega (arith, lt, end)))))
     ]
 
--- none of the bytes is the quote
-pub no_quote : (d : Marks) (sample : List ℕ) (quote : ℕ) → d.quote ≡ Some quote → is_absent quote sample ≡ true → All (λ b. is_quote d b ≡ false) sample
-no_quote d sample quote is absent k other lt = elim (cases_Bool (get_or sample k other == quote)) [
-  | inl same ↦ absurd (let found : list_any (λ b. b == quote) sample ≡ true = list_any_at (λ b. b == quote) sample k other lt same in let no : ⊥ = cc in no)
-  | inr apart ↦ ap (λ q. is_byte q (get_or sample k other)) is ∙ other_way (get_or sample k other) quote apart
+-- none of the bytes is one that is absent
+pub absent_each : (sample : List ℕ) (wanted : ℕ) → is_absent wanted sample ≡ true → All (λ b. (b == wanted) ≡ false) sample
+absent_each sample wanted absent k other lt = elim (cases_Bool (get_or sample k other == wanted)) [
+  | inl same ↦ absurd (let found : list_any (λ b. b == wanted) sample ≡ true = list_any_at (λ b. b == wanted) sample k other lt same in let no : ⊥ = cc in no)
+  | inr apart ↦ apart
 ]
+
+pub lacking : (sample : List ℕ) (wanted : Option ℕ) → lacks sample wanted ≡ true → All (λ b. is_byte wanted b ≡ false) sample
+lacking sample None h k other lt = refl
+lacking sample (Some wanted) h k other lt = other_way (get_or sample k other) wanted (absent_each sample wanted h k other lt)

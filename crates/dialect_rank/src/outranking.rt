@@ -1,4 +1,4 @@
-//! A candidate that can't be above the best one so far isn't scored.
+//! The higher of two candidates, and those that can't be it, so that they needn't be scored.
 ghost use Rattle.std.specs.Prelude.{◌≡◌, ◌&&◌, ◌==◌, false, slice_get, IfOk};
 ghost use Rattle.std.specs.Option.{option_map};
 ghost use Rattle.dialect_rank.specs.Rank.{is_above, is_table};
@@ -7,7 +7,7 @@ ghost use Rattle.dialect_rank.specs.Sampled.{sampled_rows};
 ghost use Rattle.dialect_rank.specs.Score.{field_count, score_of};
 
 use crate::best_place::{is_above, is_table, is_well_quoted};
-use crate::quote_search::may_quote;
+use crate::quote_search::lacks_quote;
 use crate::ranked::{Ranked, rank};
 use crate::sampling::Walk;
 use crate::scores::Score;
@@ -44,7 +44,7 @@ fn first_count(
 
 /// Whether a dialect's score may be above another one. It can't be where all rows of the other agree on as many columns at
 /// least as its first row has, and either their quotes are closed or it has none: its rows could at best agree on fewer.
-fn can_outrank(
+pub fn can_outrank(
     alloc: Global,
     dialect: &Dialect,
     sample: &SearchedSample<'_>,
@@ -56,7 +56,7 @@ fn can_outrank(
     if !is_perfect(best) {
         return Ok(true);
     }
-    if !is_well_quoted(best) && may_quote(dialect, sample.bytes, sample.absent) {
+    if !is_well_quoted(best) && !lacks_quote(dialect, sample.bytes, sample.absent) {
         return Ok(true);
     }
     match first_count(
@@ -80,9 +80,6 @@ pub fn higher(
 ) -> Result<Ranked, NoMemory>
     ensures { IfOk result (λ ranked. ranked ≡ higher best (ranked_of dialect.now sample.now.bytes.now sample.now.whole sample.now.sample_size)) }
 {
-    if !can_outrank(alloc, dialect, sample, &best.score)? {
-        return Ok(best);
-    }
     let other = rank(
         alloc,
         dialect,

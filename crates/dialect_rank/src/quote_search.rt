@@ -1,7 +1,6 @@
 //! The quotes that a sample doesn't have. Many candidates share a quote, so each is searched for once.
-ghost use Rattle.std.specs.Prelude.{◌≡◌, false, All};
-ghost use Rattle.row_fields.specs.Fields.{is_quote};
-ghost use Rattle.dialect_rank.specs.Absent.{absent_in, is_absent};
+ghost use Rattle.std.specs.Prelude.{◌≡◌};
+ghost use Rattle.dialect_rank.specs.Absent.{absent_in, is_absent, lacks};
 
 use byte_classes::{Dialect, next_byte};
 
@@ -13,7 +12,7 @@ pub struct AbsentQuotes {
 }
 
 /// Whether none of the bytes is this one.
-fn is_absent(byte: u8, sample: &[u8]) -> bool
+pub(crate) fn is_absent(byte: u8, sample: &[u8]) -> bool
     ensures { result ≡ is_absent byte sample.now }
 {
     next_byte(byte, sample, 0) == sample.len()
@@ -41,13 +40,13 @@ fn is_quote_absent(quote: u8, sample: &[u8], absent: AbsentQuotes) -> bool
     }
 }
 
-/// Whether some field may be quoted: the quote is among the bytes.
-pub(crate) fn may_quote(dialect: &Dialect, sample: &[u8], absent: AbsentQuotes) -> bool
+/// Whether no field can be quoted: a dialect has no quote, or it is none of the bytes.
+pub(crate) fn lacks_quote(dialect: &Dialect, sample: &[u8], absent: AbsentQuotes) -> bool
     requires known { absent ≡ absent_in sample.now }
-    ensures { result ≡ false → All (λ b. is_quote dialect.now b ≡ false) sample.now }
+    ensures { result ≡ lacks sample.now dialect.now.quote }
 {
     match dialect.quote() {
-        Some(quote) => !is_quote_absent(quote, sample, absent),
-        None => false,
+        Some(quote) => is_quote_absent(quote, sample, absent),
+        None => true,
     }
 }

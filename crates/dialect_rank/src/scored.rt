@@ -1,5 +1,6 @@
 //! All candidates with their scores, for whoever wants to see why one was chosen.
-ghost use Rattle.std.specs.Prelude.{◌≡◌, ◌<◌, ◌==◌, ◌++◌, filter, count_by, length, IfOk, OnOk};
+ghost use Rattle.std.specs.Prelude.{◌≡◌, ◌<◌, ◌==◌, ◌++◌, filter, count_by, length, All, IfOk, OnOk};
+ghost use Rattle.byte_classes.specs.Dialect.{IsDialect};
 ghost use Rattle.load_options.specs.Accepted.{IsAccepted};
 ghost use Rattle.dialect_rank.specs.Scored.{stands_before, standing, in_rank_order, scored_candidates, scored_from};
 
@@ -8,6 +9,7 @@ use crate::candidate_list::candidates;
 use crate::lists::Dialects;
 use crate::ranked::score;
 use crate::scores::Score;
+use crate::searched_sample::SearchedSample;
 use byte_classes::Dialect;
 use csv_source::NoMemory;
 use load_options::Options;
@@ -21,7 +23,7 @@ pub struct Scored {
     pub score: Score,
 }
 
-/// Some candidates with their scores and places.
+/// Some candidates with their scores and places. Those that read the sample alike are scored once.
 fn scored_of(
     alloc: Global,
     candidates: &Dialects,
@@ -29,12 +31,19 @@ fn scored_of(
     whole: bool,
     sample_size: u64,
 ) -> Result<Vec<Scored>, NoMemory>
+    requires sound { All IsDialect candidates.now }
     ensures { IfOk result (λ scored. scored.items ≡ scored_from sample.now whole sample_size 0 candidates.now) }
 {
-    let mut scored = Vec::new(alloc);
+    let mut scored: Vec<Scored> = Vec::new(alloc);
+    let mut searched = SearchedSample::new(sample, whole, sample_size);
     for place in 0..candidates.len() {
         let dialect = candidates.get(place);
-        let score = score(alloc, &dialect, sample, whole, sample_size)?;
+        let alike = searched.first_alike(candidates, &dialect);
+        let score = if alike < place {
+            scored[alike].score
+        } else {
+            score(alloc, &dialect, sample, whole, sample_size)?
+        };
         scored.push(Scored {
             place,
             dialect,
