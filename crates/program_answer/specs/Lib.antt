@@ -1,3 +1,2 @@
 pub mod OwnText
 pub mod ProgramTaps
-pub mod RunOf

@@ -5,7 +5,7 @@ ghost use Rattle.loader_reply.specs.Replying.{ReadsNoFile};
 ghost use Rattle.program_answer.specs.OwnText.{IsTold, asks_help, asks_version, help_of, is_help_option, own_text, part_named};
 ghost use Rattle.program_answer.specs.declared.answering.OwnText.TheVariants as owns;
 ghost use Rattle.program_answer.specs.ProgramTaps.{program_taps};
-ghost use Rattle.program_answer.specs.RunOf.{IsRun};
+ghost use Rattle.csv_loader.specs.Headline.{IsRun};
 
 use crate::help::{HELP, OPTIONS, REPORT, VERSION};
 use crate::loading::load;

@@ -4,7 +4,7 @@ ghost use Rattle.column_taps.specs.Seen.{nothing_seen};
 ghost use Rattle.loader_reply.specs.Reply.{texts};
 ghost use Rattle.loader_reply.specs.Replying.{ReadsNoFile};
 ghost use Rattle.program_answer.specs.ProgramTaps.{program_taps};
-ghost use Rattle.program_answer.specs.RunOf.{IsRun};
+ghost use Rattle.csv_loader.specs.Headline.{IsRun};
 
 use column_taps::{CountTap, DistinctTap, RowTap, SpanTap, TapKind, WidthTap};
 use csv_loader::{Ending, run_to_ending};
