@@ -165,9 +165,12 @@ impl<'a, R: Threads + Wait + Sync, G: Gate> Loader<'a, R, G> {
         let lines = count_line_ends(&head.bytes()[..start], None);
         let stop = stops_at_error(self.options);
         let read = self.read_data(&context, head, start, source, stop)?;
+        let keep = context.keep;
+        // As one value and before the last exits, as in `Ending::of`.
+        drop(context);
         match read {
             WindowRead::All(read) => {
-                let loaded = loaded_data(self.alloc, context.keep, read, lines)?;
+                let loaded = loaded_data(self.alloc, keep, read, lines)?;
                 Ok(FileLoad::Whole(loaded))
             }
             WindowRead::Stopped(reject) => Ok(FileLoad::FirstError(raised(reject, lines)?)),
