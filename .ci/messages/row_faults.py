@@ -202,7 +202,7 @@ HELPS = [
     # too many
     helped(["load", "f.csv", "delim=,", "nullstr=n a"], THREE + b"1,2,3\n", "csvload sniff f.csv explain=true delim=, 'nullstr=n a' tells how the rows are cut; " + ANY),
     helped(["load", "f.csv", "delim=,", "nullstr=" + "n" * 60], THREE + b"1,2,3\n", "csvload sniff f.csv explain=true, with the same words tells how the rows are cut; " + ANY),
-    helped(["convert", "f.csv", "delim=,", "to=sqlite", "table=t"], THREE + b"1,2,3\n", "csvload sniff f.csv explain=true delim=, tells how the rows are cut; " + ANY),
+    helped(["convert", "f.csv", "delim=,", "to=sqlite", "table=t", "output=o.db"], THREE + b"1,2,3\n", "csvload sniff f.csv explain=true delim=, tells how the rows are cut; " + ANY),
     # a row too long
     helped(["load", "f.csv", "max_line_size=9"], b"a,b\n1,2\n3,444444444\n", "max_line_size=4194304 is the most; " + ANY),
     helped(["load", "f.csv"], b"a,b\n1,2\n" + b"x" * 2_097_153, "max_line_size=4194304 is the most; " + ANY),

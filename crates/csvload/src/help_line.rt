@@ -17,7 +17,7 @@ const ANY: &str = "ignore_errors=true passes over faulty rows, store_rejects=tru
 const DOS_END: &[u8] = b"\x1a";
 
 /// Options that `sniff` doesn't take as they are given, or that it is given there.
-const NOT_OF_SNIFF: [&str; 4] = ["to", "table", "same_header", "explain"];
+const NOT_OF_SNIFF: [&str; 5] = ["to", "table", "same_header", "explain", "output"];
 
 /// A first fault, and what is known of the run that it ended.
 #[derive(Clone, Copy)]
