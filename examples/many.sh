@@ -61,7 +61,11 @@ for file in "${files[@]}"; do
 done
 
 # The words that fix what was found in the first file stand in one line, cut at bars, and shown with backslashes.
-explained=$("$csvload" sniff "${files[0]}" explain=true "${reading[@]}") || true
+said=$(mktemp)
+explained=$("$csvload" sniff "${files[0]}" explain=true "${reading[@]}" 2>"$said") || true
+# The command to paste is for a person who asks; all else that is said is said here too.
+grep -v '^csvload: csvload load ' "$said" >&2 || true
+rm -f "$said"
 found=()
 while IFS= read -r word; do
     found+=("$(printf %b "$word")")
