@@ -14,7 +14,7 @@ use std::marker::Model;
 /// The most bytes of one read.
 const PIECE: usize = 262_144;
 
-/// The most bytes of a read into no memory yet, which has to be initialised: most small inputs end in them.
+/// The most bytes of the first read: memory has to be initialised before a read, and most small inputs end in these.
 const FIRST_PIECE: usize = 16_384;
 
 /// Bytes that were read. They come straight into memory that is initialised once, and used again where bytes were dropped.
@@ -100,6 +100,16 @@ impl Buffer {
         Ok(())
     }
 
+    /// How many bytes the next read asks for: as many as were read so far, so that little memory is initialised for few bytes,
+    /// or as go into the memory that is there.
+    fn next_piece(&self) -> usize
+        ensures some { 0 < result }
+        ensures within { result ≤ PIECE }
+    {
+        let spare = self.memory.len() - self.filled;
+        self.filled.max(spare).max(FIRST_PIECE).min(PIECE)
+    }
+
     /// Reads once, at most so many bytes, and answers how many came.
     fn read_piece<S: Source>(&mut self, source: &mut S, missing: u64) -> Result<usize, ReadStop>
         requires some { 0 < missing }
@@ -111,12 +121,7 @@ impl Buffer {
         ensures count { S.faults source.old ≤ S.faults source.new }
         ensures failed { result ≡ Err stops.Failed → Rose (S.faults source.old) (S.faults source.new) }
     {
-        let piece = if self.memory.is_empty() {
-            FIRST_PIECE
-        } else {
-            PIECE
-        };
-        let to = self.filled + missing.min(piece as u64) as usize;
+        let to = self.filled + missing.min(self.next_piece() as u64) as usize;
         let most = self.filled.saturating_add(missing as usize);
         let Ok(()) = extend(&mut self.memory, to, most) else {
             return Err(ReadStop::NoMemory);
