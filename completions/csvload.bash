@@ -17,7 +17,20 @@ _csvload_files() {
 }
 
 _csvload() {
-    local word=${COMP_WORDS[COMP_CWORD]} types='BOOLEAN BIGINT DATE TIME TIMESTAMP VARCHAR'
+    local word=${COMP_WORDS[COMP_CWORD]} truths=() types=() options=()
+    # <options> made by .ci/make_options
+    truths=(header all_varchar allow_quoted_nulls null_padding ignore_errors store_rejects explain same_header stats
+        pipeline)
+    types=(BOOLEAN BIGINT DATE TIME TIMESTAMP VARCHAR)
+    options=(delim= quote= escape= comment= header= skip= sample_size= names= types= column_types= all_varchar=
+        nullstr= nulls= allow_quoted_nulls= null_padding= ignore_errors= store_rejects= rejects_limit= max_errors= to=
+        table= output= stats= max_line_size= max_input= threads= range_size= pipeline=)
+    case ${COMP_WORDS[1]} in
+        batch) options+=(same_header=) ;;
+        make) options=(rows=) ;;
+        sniff) options+=(explain=) ;;
+    esac
+    # </options>
     COMPREPLY=()
     if [ "$COMP_CWORD" -eq 1 ]; then
         mapfile -t COMPREPLY < <(compgen -W 'load summary convert rejects batch sniff make help version --help --version' -- "$word")
@@ -29,7 +42,7 @@ _csvload() {
             ;;
         make)
             compopt -o nospace
-            [ "$COMP_CWORD" -eq 3 ] && mapfile -t COMPREPLY < <(compgen -W 'rows=' -- "$word")
+            [ "$COMP_CWORD" -eq 3 ] && mapfile -t COMPREPLY < <(compgen -W "${options[*]}" -- "$word")
             ;;
         load | summary | convert | rejects | batch | sniff)
             if [ "$COMP_CWORD" -eq 2 ]; then
@@ -48,9 +61,6 @@ _csvload() {
             done
             [[ $whole == *=* ]] && name=${whole%%=*} value=${whole#*=}
             case $name in
-                header | all_varchar | allow_quoted_nulls | null_padding | ignore_errors | store_rejects | pipeline | stats | explain | same_header)
-                    mapfile -t COMPREPLY < <(compgen -W 'true false' -- "$value")
-                    ;;
                 to)
                     mapfile -t COMPREPLY < <(compgen -W 'csv sqlite' -- "$value")
                     ;;
@@ -68,22 +78,19 @@ _csvload() {
                     # Of several types the last one is completed.
                     local before=
                     [[ $value == *,* ]] && before=${value%,*},
-                    mapfile -t COMPREPLY < <(compgen -P "$before" -W "$types" -- "${value##*,}")
+                    mapfile -t COMPREPLY < <(compgen -P "$before" -W "${types[*]}" -- "${value##*,}")
                     ;;
                 column_types)
                     # The type behind the last pair's name, which is a word of its own where ':' breaks words.
                     local pairs=${value%:*}:
                     [[ $COMP_WORDBREAKS == *:* ]] && pairs=
-                    [[ ${value##*,} == *:* ]] && mapfile -t COMPREPLY < <(compgen -P "$pairs" -W "$types" -- "${value##*:}")
+                    [[ ${value##*,} == *:* ]] && mapfile -t COMPREPLY < <(compgen -P "$pairs" -W "${types[*]}" -- "${value##*:}")
                     ;;
                 '')
-                    local own=
-                    [[ ${COMP_WORDS[1]} == sniff ]] && own=explain=
-                    [[ ${COMP_WORDS[1]} == batch ]] && own=same_header=
-                    mapfile -t COMPREPLY < <(compgen -W "delim= quote= escape= comment= header= skip= nullstr= nulls=
-                        allow_quoted_nulls= all_varchar= names= types= column_types= sample_size= null_padding=
-                        ignore_errors= store_rejects= rejects_limit= max_errors= max_line_size= max_input= threads=
-                        range_size= pipeline= stats= to= table= output= $own" -- "$word")
+                    mapfile -t COMPREPLY < <(compgen -W "${options[*]}" -- "$word")
+                    ;;
+                *)
+                    [[ " ${truths[*]} " == *" $name "* ]] && mapfile -t COMPREPLY < <(compgen -W 'true false' -- "$value")
                     ;;
             esac
             [[ $word == *=* && -n $name && $word != = ]] && COMPREPLY=("${COMPREPLY[@]/#/$name=}")
