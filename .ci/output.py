@@ -52,6 +52,8 @@ REFUSES = (
     (3, ["load", "faulty.csv", TYPES]),
     (4, ["convert", "good.csv", "column_types=other:DATE"]),
     (7, ["convert", "good.csv", "max_input=3"]),
+    # A word with the byte FF, as the system hands it on.
+    (8, ["convert", "good.csv", "nullstr=\udcff"]),
     (9, ["load", "faulty.csv", TYPES, "max_errors=0", "ignore_errors=true"]),
 )
 
