@@ -6,6 +6,7 @@ installed a few lines of Python stand in for it, which is said.
 """
 
 import csv
+import fcntl
 import os
 import pathlib
 import shutil
@@ -32,9 +33,11 @@ exec "$PROGRAM" "$@"
 """
 
 
-# For GNU parallel as the script calls it: --will-cite --null JOB, with the files in standard input, two at a time.
+# For GNU parallel as the script calls it: --version, or --will-cite --null JOB, with the files in standard input, two at a time.
 STAND_IN = """#!/usr/bin/env python3
 import multiprocessing.pool, pathlib, shlex, subprocess, sys
+if sys.argv[1] == "--version":
+    sys.exit(print("GNU parallel, by a stand-in"))
 def run(file):
     job = sys.argv[3].replace("{/.}", shlex.quote(pathlib.Path(file).stem)).replace("{}", shlex.quote(file))
     return subprocess.run(["bash", "-c", job]).returncode
@@ -53,9 +56,10 @@ def rows_of(path: pathlib.Path) -> list[list[str]]:
 TYPED = {"a.csv": "zip,n\n00501,1\n", "b.csv": "zip,n\n00502,x\n00503,2\n", "c.csv": "zip\n00504\n"}
 
 
-def convert(folder: pathlib.Path, into: pathlib.Path, environment: dict[str, str], *words: str) -> tuple[int, str]:
+def convert(folder: pathlib.Path | str, into: pathlib.Path | str, environment: dict[str, str], *words: str) -> tuple[int, str]:
     """The status of the script, and what it said."""
-    run = subprocess.run([SCRIPT, folder, into, *words], env=environment, capture_output=True, text=True, timeout=120)
+    command = [SCRIPT, folder, into, *words]
+    run = subprocess.run(command, cwd=environment["HOME"], env=environment, capture_output=True, text=True, timeout=120)
     return run.returncode, run.stderr
 
 
@@ -145,6 +149,38 @@ def anew(made: str, environment: dict[str, str]) -> None:
     assert [row[1] for row in rows_of(results[1])] == ["v", "c"], rows_of(results[1])
 
 
+def held(folder: pathlib.Path) -> dict[str, bytes]:
+    """The files of a folder."""
+    return {path.name: path.read_bytes() for path in folder.iterdir() if path.is_file()}
+
+
+def kept(made: str, environment: dict[str, str]) -> None:
+    """Words that are refused take no result away, nor does a second call while the first is at work; a file that no call made
+    stays. A folder may be named as an option is."""
+    folder, into = pathlib.Path(made, "-from"), pathlib.Path(made, "-into")
+    folder.mkdir()
+    for name in ("a.csv", "-b 'c' \\ ü.csv"):
+        pathlib.Path(folder, name).write_text("id;v\n1;a\n")
+    assert convert("-from", "-into", environment, "sep=;") == (0, "")
+    there = held(into)
+    assert len(there) == 3, there
+    refused = (
+        ("to=sqlit", "csvload: 'to=sqlit' is refused: to takes csv or sqlite"),
+        ("output=x", "many.sh: 'output=x' is no option here"),
+        ("header=false", "many.sh: another call is at work in './-into'"),
+    )
+    with open(into / ".rejects" / "lock") as lock:
+        fcntl.flock(lock, fcntl.LOCK_EX)
+        for word, line in refused if shutil.which("flock") else refused[:2]:
+            assert convert("-from", "-into", environment, word) == (2, f"{line}\n"), word
+    assert held(into) == there
+    own = pathlib.Path(made, "own")
+    own.mkdir()
+    pathlib.Path(own, "a.csv").write_text("mine\n")
+    line = f"many.sh: '{own}/a.csv' is there, and no result of this script: name another folder\n"
+    assert convert(folder, own, environment) == (2, line) and held(own) == {"a.csv": b"mine\n"}
+
+
 def main() -> None:
     missing = [name for name in NEEDED if not shutil.which(name)]
     if missing:
@@ -178,6 +214,7 @@ def main() -> None:
         typed(made, environment)
         refused(made, environment)
         anew(made, environment)
+        kept(made, environment)
     print(f"{sys.argv[0]}: {len(FILES)} files by two workers of {by}, one killed midway: none lost, none twice")
 
 

@@ -41,6 +41,7 @@ MISTAKES = [
     (b'a,b\n"x\0y",1\n', ["types=VARCHAR,BIGINT"], "new", 3, "invalid byte sequence"),
     (b"%s\n" % b",".join(b"c%d" % number for number in range(1601)), ["header=true"], "new", 3, "at most 1600 columns"),
     (b"a\n1\n", ["header=yes"], "new", 1, "header takes true or false"),
+    (b"a\n1\n", ["output=rows"], "new", 1, "'output=rows' is no option here"),
     (b"1,2\n3,4\n5,6\n", ["max_input=9"], "new", 7, "more than 9 bytes"),
     (None, [], "new", 2, "file.csv"),
 ]

@@ -24,9 +24,13 @@ refuse() {
 if [ ! -d "$1" ]; then refuse "'$1' is no folder"; fi
 if [ "$1" -ef "$2" ]; then refuse "'$1' and '$2' are one folder: the results want another"; fi
 if ! command -v "$csvload" >/dev/null; then refuse "no program '$csvload' (CSVLOAD names it)"; fi
-if ! command -v parallel >/dev/null; then refuse "no program 'parallel' (GNU parallel)"; fi
-folder=$(cd "$1" && pwd)
-target=$2
+# Another program has this name too.
+if [[ $(parallel --version 2>/dev/null) != 'GNU parallel'* ]]; then refuse "no program 'parallel' (GNU parallel)"; fi
+# A name is no option, and none that CDPATH leads elsewhere.
+source=$1 target=$2
+if [[ $source != /* ]]; then source=./$source; fi
+if [[ $target != /* ]]; then target=./$target; fi
+folder=$(cd "$source" && pwd)
 shift 2
 ending=csv
 
@@ -42,14 +46,17 @@ gives() {
 
 reading=(ignore_errors=true) writing=()
 for word in "$@"; do
+    if gives "$word" output explain; then refuse "'$word' is no option here"; fi
     if gives "$word" to table; then writing+=("$word"); else reading+=("$word"); fi
     if [ "$word" = to=sqlite ]; then ending=db; fi
 done
 
-files=("$folder"/*.[cC][sS][vV])
-if [ ! -e "${files[0]}" ]; then refuse "'$folder' has no file NAME.csv or NAME.CSV"; fi
+# By the bytes of the names, whatever the locale.
+mapfile -d '' files < <(LC_ALL=C && shopt -s nullglob && printf '%s\0' "$folder"/*.[cC][sS][vV])
+if [ -z "${files[0]}" ]; then refuse "'$folder' has no file NAME.csv or NAME.CSV"; fi
 # Whether each result has a name of its own.
 declare -A file_of
+results=()
 for file in "${files[@]}"; do
     result=/${file##*/}
     result=${result%.*}.$ending
@@ -58,14 +65,15 @@ for file in "${files[@]}"; do
     fi
     if [ -n "${file_of[$result]-}" ]; then refuse "'${file_of[$result]}' and '$file' would have one result: rename one"; fi
     file_of[$result]=$file
+    results+=("$result")
 done
 
 # The words that fix what was found in the first file stand in one line, cut at bars, and shown with backslashes.
 said=$(mktemp)
+trap 'rm -f "$said"' EXIT
 explained=$("$csvload" sniff "${files[0]}" explain=true "${reading[@]}" 2>"$said") || true
 # The command to paste is for a person who asks; all else that is said is said here too.
 grep -v '^csvload: csvload load ' "$said" >&2 || true
-rm -f "$said"
 found=()
 while IFS= read -r word; do
     found+=("$(printf %b "$word")")
@@ -83,11 +91,26 @@ if ! printf '%s\n' "${found[@]}" | grep -q '^types='; then
 fi
 words=("${found[@]}")
 for word in "${reading[@]}"; do
-    if ! gives "$word" "${found[@]%%=*}" column_types all_varchar; then words+=("$word"); fi
+    if ! gives "$word" "${found[@]%%=*}" sep delimiter dtypes column_types all_varchar; then words+=("$word"); fi
 done
+# Words that are refused are so before a result is taken away; of an empty input nothing else is asked.
+status=0
+"$csvload" convert - "${words[@]}" ${writing[@]+"${writing[@]}"} < /dev/null > /dev/null 2>"$said" || status=$?
+if [ "$status" -eq 1 ]; then
+    cat "$said" >&2
+    exit 2
+fi
 
-mkdir -p "$target/.rejects"
+# What is there and was made by no call is somebody's file.
+for result in "${results[@]}" /rejects.csv; do
+    if [ -e "$target$result" ] && [ ! -e "$target/.rejects/words" ]; then
+        refuse "'$target$result' is there, and no result of this script: name another folder"
+    fi
+done
+mkdir -p "$target/.rejects" || exit 2
 into=$(cd "$target" && pwd)
+exec {lock}> "$into/.rejects/lock"
+if command -v flock >/dev/null && ! flock -n "$lock"; then refuse "another call is at work in '$target'"; fi
 # What the results were made of and with stands beside them, but for the words that change no result.
 made_with=$(printf '%q ' "$folder")
 for word in "${words[@]}" ${writing[@]+"${writing[@]}"}; do

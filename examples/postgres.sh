@@ -15,19 +15,29 @@ if [ $# -lt 2 ]; then
 fi
 file=$1 table=$2
 shift 2
+csvload=${CSVLOAD:-csvload}
+refuse() {
+    echo "${0##*/}: $1" >&2
+    exit 1
+}
 awk_bytes() { TABLE=$table SCRIPT=${0##*/} LC_ALL=C awk "$1"; }
 
 if ! awk_bytes 'BEGIN {
     name = "([A-Za-z_\200-\377][A-Za-z0-9_$\200-\377]*|\"([^\"]|\"\")+\")"
     exit ENVIRON["TABLE"] !~ ("^" name "(\\." name ")?$")
-}'; then
-    echo "${0##*/}: '$table' is no name of a table as SQL has it" >&2
-    exit 1
-fi
+}'; then refuse "'$table' is no name of a table as SQL has it"; fi
+if ! command -v "$csvload" >/dev/null; then refuse "no program '$csvload' (CSVLOAD names it)"; fi
+if ! command -v psql >/dev/null; then refuse "no program 'psql' (PostgreSQL's client)"; fi
+# A file named as the program's --help is one all the same.
+if [[ $file == -?* ]]; then file=./$file; fi
+# The report goes to psql, and to no file.
+for word in "$@"; do
+    if [[ $word == output=* ]]; then refuse "'$word' is no option here"; fi
+done
 
 # What the report shows with backslashes and bars is COPY's text format with the delimiter |, and its \N is COPY's null. Only a
 # report that is whole, and so ends with the number of errors, is committed.
-"${CSVLOAD:-csvload}" load "$file" store_rejects=true "$@" | awk_bytes '
+"$csvload" load "$file" store_rejects=true "$@" | awk_bytes '
     function name_of(line, column,   parts, count, i, name) {
         sub(/^column\|[0-9]*\|[A-Z]*\|/, "", line)
         count = split(line, parts, /\\\\/)
