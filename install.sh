@@ -12,7 +12,7 @@ case $prefix in
     /*) ;;
     *) prefix=$PWD/$prefix ;;
 esac
-cd "$(dirname "$0")"
+CDPATH='' cd "$(dirname "$0")"
 case ${1-} in
     '') ;;
     --quick)
@@ -29,6 +29,10 @@ esac
 if [ -e bin/csvload ]; then
     files=$(find bin share -type f | sed 's/.*/&:&/')
 else
+    if ! command -v rt >/dev/null; then
+        echo "install.sh: no program 'rt', which is Rattle's toolchain; a package needs none" >&2
+        exit 1
+    fi
     (cd crates/csvload && rt run -- --version >/dev/null)
     files='crates/csvload/out/csvload:bin/csvload
         examples/postgres.sh:bin/csvload-postgres
@@ -65,3 +69,7 @@ trap 'each remove' EXIT
 trap 'exit 1' HUP INT TERM
 each copy
 each rename
+case :$PATH: in
+    *:"$prefix/bin":*) ;;
+    *) echo "install.sh: '$prefix/bin' isn't in PATH: export PATH=\"$prefix/bin:\$PATH\"" >&2 ;;
+esac

@@ -31,7 +31,7 @@ if [ $# -gt 0 ]; then
     if [ -z "$gate" ]; then refuse "no line 'N passed, 0 failed' in '$1'"; fi
     gate="gate: $gate"
 fi
-cd "$(dirname "$0")"
+CDPATH='' cd "$(dirname "$0")"
 for tool in git rt strip gzip tar; do
     if ! command -v "$tool" >/dev/null; then refuse "no program '$tool'"; fi
 done

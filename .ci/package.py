@@ -47,7 +47,7 @@ SHARED = {
 }
 MODULES = {f"csvload/{name}" for name in ("__init__.py", "frames.py", "py.typed", "reading.py", "running.py")}
 BELOW_PREFIX = PROGRAMS | SHARED | {"share/zsh/site-functions/_csvload"}
-IN_TAR = BELOW_PREFIX | {"install.sh", "python/pyproject.toml"} | {f"python/{name}" for name in MODULES}
+IN_TAR = BELOW_PREFIX | {"install.sh", "python/backend.py", "python/pyproject.toml"} | {f"python/{name}" for name in MODULES}
 IN_DEB = PROGRAMS | SHARED | {"share/zsh/vendor-completions/_csvload"} | {f"lib/python3/dist-packages/{name}" for name in MODULES}
 
 
@@ -177,11 +177,26 @@ def check_tar(path: pathlib.Path, folder: pathlib.Path) -> int:
     environment = only(folder, "others")
     status, said = run([folder / top / "install.sh"], folder, dict(environment, PREFIX="a prefix"))
     into = folder / "a prefix"
-    same((status, set(said.splitlines())), (0, {str(into / name) for name in BELOW_PREFIX}))
+    beside = f"install.sh: '{into}/bin' isn't in PATH: export PATH=\"{into}/bin:$PATH\""
+    same((status, set(said.splitlines())), (0, {beside, *(str(into / name) for name in BELOW_PREFIX)}))
     same({str(it.relative_to(into)) for it in into.rglob("*") if it.is_file()}, BELOW_PREFIX)
     for name in BELOW_PREFIX:
         assert (into / name).read_bytes() == (folder / top / name).read_bytes(), name
-    return use(into, folder / top / "python", environment)
+    commands = use(into, folder / top / "python", environment)
+    check_pip(folder / top / "python", folder, environment)
+    return commands
+
+
+def check_pip(sources: pathlib.Path, folder: pathlib.Path, environment: dict[str, str]) -> None:
+    """pip installs the module, and fetches nothing for it; its version is the program's."""
+    if run([sys.executable, "-m", "venv", folder / "venv"], folder, environment)[0]:
+        print(f"{sys.argv[0]}: pip passed over, no venv")
+        return
+    programs = folder / "venv" / "bin"
+    status, said = run([programs / "pip", "install", "--no-index", sources], folder, environment)
+    assert status == 0, said
+    ask = "import csvload, importlib.metadata as of; print('csvload', of.version('csvload'))"
+    same(run([programs / "python", "-c", ask], folder, environment), run([os.environ["CSVLOAD"], "version"], folder, environment))
 
 
 def check_deb(path: pathlib.Path, folder: pathlib.Path) -> int:

@@ -169,6 +169,7 @@ read <- function() csvload("hard rows.csv", delim = ",", quote = "\\"", escape =
     types = c("BIGINT", "BOOLEAN", "DATE", "TIME", "TIMESTAMP", "VARCHAR"), max_errors = 100000, ignore_errors = TRUE)
 table <- read()
 cat(vapply(table, function(column) class(column)[1], ""), "\\n")
+cat(inherits(try(csvload("hard rows.csv", output = "rows"), silent = TRUE), "try-error"), file.exists("rows"), csvload("--help")$a, "\\n")
 table$day <- as.integer(table$day)
 for (column in table) for (cell in as.character(column))
     cat(if (is.na(cell)) "NA" else paste(c("=", charToRaw(cell)), collapse = ""), "\\n", sep = "")
@@ -184,9 +185,11 @@ def has_r() -> bool:
 class R(Folder):
     def test_hard_rows_lose_the_least_number_alone(self) -> None:
         pathlib.Path("script.R").write_text(R_SCRIPT.format(top=TOP))
+        self.write("--help", b"a\n1\n")
         said = subprocess.run(["Rscript", "--vanilla", "script.R"], check=True, capture_output=True, timeout=60).stdout.decode()
-        kinds, *lines = said.splitlines()
+        kinds, calls, *lines = said.splitlines()
         self.assertEqual(kinds.split(), ["integer64", "logical", "Date", "character", "character", "character"])
+        self.assertEqual(calls.split(), ["TRUE", "FALSE", "1"])
         columns = {name: [*cells] for name, cells in zip(hard_rows.NAMES, zip(*hard_rows.ROWS))}
         columns["day"] = [cell and date.fromisoformat(cell).toordinal() - date(1970, 1, 1).toordinal() for cell in columns["day"]]
         columns["Is it?"] = [cell if cell is None else str(cell).upper() for cell in columns["Is it?"]]

@@ -11,6 +11,10 @@
 # and a text ends at its first NUL. Where a rejected line isn't UTF-8, RSQLite warns of mixed types.
 csvload <- function(file, ...) {
     options <- list(...)
+    # What the answer is, and where it goes, isn't the caller's to choose.
+    if (any(names(options) %in% c("to", "table", "output"))) stop("to, table and output are no options here", call. = FALSE)
+    # Else it could be an option's name; - alone is standard input.
+    if (startsWith(file, "-") && file != "-") file <- paste0("./", file)
     word <- function(name, value) {
         if (is.logical(value)) value <- ifelse(value, "true", "false")
         if (is.numeric(value)) value <- format(value, scientific = FALSE, trim = TRUE)
