@@ -19,11 +19,12 @@ use Rattle.row_fields.proofs.PlainReading.{bare_field_of, delim_stops, line_end_
 use Rattle.value_types.specs.Digits.{is_numeral}
 use Rattle.value_types.specs.Plain.{is_clock_byte, is_stamp_byte}
 use Rattle.load_options.specs.declared.options.Options.{Options}
-use Rattle.csv_sniffer.specs.declared.possible_types.PossibleTypes.{PossibleTypes}
+use Rattle.value_types.specs.declared.possible_types.PossibleTypes.{PossibleTypes}
 use Rattle.csv_sniffer.specs.ColumnTypes.{is_null_field, value_unless_null}
-use Rattle.csv_sniffer.specs.KeptTypes.{is_settled, is_value_byte, keeps}
-use Rattle.csv_sniffer.specs.PossibleTypes.{column_value, narrowed_by}
-use Rattle.csv_sniffer.proofs.KeptTypes.{kept, settled}
+use Rattle.value_types.specs.KeptTypes.{is_settled, is_value_byte, keeps}
+use Rattle.value_types.specs.PossibleTypes.{narrowed_by}
+use Rattle.csv_sniffer.specs.PossibleTypes.{column_value}
+use Rattle.value_types.proofs.KeptTypes.{kept, settled}
 
 -- ---- bytes of values
 

@@ -5,15 +5,15 @@ ghost use Rattle.row_fields.specs.Fields.{fields};
 ghost use Rattle.row_fields.specs.Plain.{LeavesPlain};
 ghost use Rattle.row_fields.specs.Split.{row_from};
 ghost use Rattle.load_options.specs.declared.options.Options.{Options};
-ghost use Rattle.csv_sniffer.specs.declared.possible_types.PossibleTypes.{PossibleTypes};
-ghost use Rattle.csv_sniffer.specs.KeptTypes.{is_settled, is_value_byte, keeps};
-ghost use Rattle.csv_sniffer.specs.PossibleTypes.{column_value, narrowed_by};
+ghost use Rattle.value_types.specs.declared.possible_types.PossibleTypes.{PossibleTypes};
+ghost use Rattle.value_types.specs.KeptTypes.{is_settled, is_value_byte, keeps};
+ghost use Rattle.value_types.specs.PossibleTypes.{narrowed_by};
+ghost use Rattle.csv_sniffer.specs.PossibleTypes.{column_value};
 
-use crate::possible_types::PossibleTypes;
 use crate::sampled_rows::SampledRows;
 use byte_classes::{Dialect, is_line_end};
 use quote_automaton::begins_comment;
-use value_types::{ColumnType, is_plain};
+use value_types::{ColumnType, PossibleTypes, is_plain};
 
 /// Whether a byte may stand in a plain value of a type.
 fn is_value_byte(byte: u8) -> bool

@@ -6,11 +6,10 @@ ghost use Rattle.csv_sniffer.specs.Hints.{is_freed, is_such_null, may_name_nulls
 use crate::explaining::entries::{ColumnSample, Entry};
 use crate::explaining::hints::Hint;
 use crate::of_type::is_varchar;
-use crate::possible_types::PossibleTypes;
 use csv_source::{Bytes, NoMemory};
 use load_options::Options;
 use std::alloc::Global;
-use value_types::ColumnType;
+use value_types::{ColumnType, PossibleTypes};
 
 /// Whether a value would be null, were this text one that stands for null.
 fn is_such_null(options: &Options, text: &[u8], entry: &Entry) -> bool

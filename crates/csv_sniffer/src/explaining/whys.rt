@@ -7,10 +7,9 @@ ghost use Rattle.csv_sniffer.specs.declared.explaining.entries.Entry.{Entry};
 ghost use Rattle.csv_sniffer.specs.declared.explaining.whys.TheConstants.{VALUE_LIMIT};
 
 use crate::explaining::entries::{ColumnSample, Entry};
-use crate::of_type::is_of_type;
 use csv_source::{Bytes, NoMemory};
 use std::alloc::Global;
-use value_types::ColumnType;
+use value_types::{ColumnType, is_of_type};
 
 /// How many bytes of a value are told.
 pub const VALUE_LIMIT: usize = 60;

@@ -6,8 +6,8 @@ use Rattle.byte_classes.specs.Fault.{is_line_end_byte}
 use Rattle.row_fields.specs.Fields.{Field, fields}
 use Rattle.row_fields.specs.Split.{row_from}
 use Rattle.row_fields.proofs.FirstFields.{has_rest_all}
-use Rattle.csv_sniffer.specs.declared.possible_types.PossibleTypes.{PossibleTypes}
-use Rattle.csv_sniffer.specs.KeptTypes.{keeps}
+use Rattle.value_types.specs.declared.possible_types.PossibleTypes.{PossibleTypes}
+use Rattle.value_types.specs.KeptTypes.{keeps}
 use Rattle.csv_sniffer.proofs.KeptRows.{kept_before_delim, kept_before_line_end, kept_one_more, kept_with_settled, rest_behind_delim}
 use Rattle.csv_sniffer.proofs.kept_rows.keeps_types.Goals as goal
 

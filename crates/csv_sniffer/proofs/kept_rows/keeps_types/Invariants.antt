@@ -3,8 +3,9 @@ use Rattle.row_fields.specs.Fields.{fields}
 use Rattle.row_fields.specs.Split.{row_from}
 use Rattle.row_fields.proofs.FirstFields.{HasRest}
 use Rattle.load_options.specs.declared.options.Options.{Options}
-use Rattle.csv_sniffer.specs.declared.possible_types.PossibleTypes.{PossibleTypes}
-use Rattle.csv_sniffer.specs.PossibleTypes.{column_value, narrowed_by}
+use Rattle.value_types.specs.declared.possible_types.PossibleTypes.{PossibleTypes}
+use Rattle.value_types.specs.PossibleTypes.{narrowed_by}
+use Rattle.csv_sniffer.specs.PossibleTypes.{column_value}
 use Rattle.csv_sniffer.proofs.kept_rows.keeps_types.Given as goal
 
 -- the columns so far are kept, and the rest of the row begins here

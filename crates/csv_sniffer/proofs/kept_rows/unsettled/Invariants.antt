@@ -1,6 +1,6 @@
 use Rattle.std.proofs.Common.{◌≡◌, ◌+◌, ◌<◌, ◌≤◌, ℕ, true, length, get_or}
-use Rattle.csv_sniffer.specs.declared.possible_types.PossibleTypes.{PossibleTypes}
-use Rattle.csv_sniffer.specs.KeptTypes.{is_settled}
+use Rattle.value_types.specs.declared.possible_types.PossibleTypes.{PossibleTypes}
+use Rattle.value_types.specs.KeptTypes.{is_settled}
 use Rattle.csv_sniffer.proofs.kept_rows.unsettled.Given as goal
 
 -- so many columns at the end are settled

@@ -2,7 +2,7 @@ use Rattle.std.proofs.Common.{◌≡◌, ℕ, suc, ◌-◌, ◌<◌, ◌≤◌, 
 use Rattle.std.specs.Prelude.{filter, not}
 use Rattle.load_options.specs.declared.options.Options.{Options}
 use Rattle.csv_sniffer.specs.Hints.{is_such_null}
-use Rattle.csv_sniffer.specs.PossibleTypes.{first_possible, narrowed, possible_types}
+use Rattle.value_types.specs.PossibleTypes.{first_possible, narrowed, possible_types}
 use Rattle.csv_sniffer.specs.declared.explaining.entries.Entry.{Entry}
 use Rattle.csv_sniffer.proofs.PossibleLaws.{first_possible-is, possible-cons}
 use Rattle.csv_sniffer.proofs.explaining.null_hints.type_beside.Goals as goal

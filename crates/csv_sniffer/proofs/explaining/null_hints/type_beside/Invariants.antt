@@ -1,7 +1,7 @@
 use Rattle.std.proofs.Common.{◌≡◌, ◌≤◌, drop, length, map}
 use Rattle.std.specs.Prelude.{filter, not}
 use Rattle.csv_sniffer.specs.Hints.{is_such_null}
-use Rattle.csv_sniffer.specs.PossibleTypes.{possible_types}
+use Rattle.value_types.specs.PossibleTypes.{possible_types}
 use Rattle.csv_sniffer.specs.declared.explaining.entries.Entry.{Entry}
 use Rattle.csv_sniffer.proofs.explaining.null_hints.type_beside.Given as goal
 

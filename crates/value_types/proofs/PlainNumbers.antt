@@ -12,7 +12,7 @@ use Rattle.value_types.specs.Digits.{decimal_value}
 use Rattle.value_types.specs.Cast.{trimmed, bigint, bigint_of}
 use Rattle.value_types.specs.OfType.{is_of_type}
 use Rattle.value_types.proofs.IntTexts.{integer_of-digits, trimmed-digits}
-use Rattle.csv_sniffer.specs.KeptTypes.{is_plain_number}
+use Rattle.value_types.specs.KeptTypes.{is_plain_number}
 
 -- all bytes are digits
 abbrev AreDigits : List ℕ → Type 0

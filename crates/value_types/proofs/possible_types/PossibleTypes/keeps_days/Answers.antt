@@ -1,8 +1,8 @@
 use Rattle.std.proofs.Common.{◌&&◌, sym, ◌∙◌, ap}
 use Rattle.value_types.specs.declared.types.ColumnType.TheVariants.{Date, Timestamp}
-use Rattle.csv_sniffer.specs.KeptTypes.{keeps_type}
-use Rattle.csv_sniffer.proofs.KeptTypes.{date_decides}
-use Rattle.csv_sniffer.proofs.possible_types.PossibleTypes.keeps_days.Goals as goal
+use Rattle.value_types.specs.KeptTypes.{keeps_type}
+use Rattle.value_types.proofs.KeptTypes.{date_decides}
+use Rattle.value_types.proofs.possible_types.PossibleTypes.keeps_days.Goals as goal
 
 pub returns-then-self : goal.returns-then-self
 returns-then-self c =

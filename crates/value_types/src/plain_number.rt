@@ -2,7 +2,7 @@
 ghost use Rattle.std.specs.Prelude.{◌≡◌};
 ghost use Rattle.std.specs.Char.{is_ascii_digit};
 ghost use Rattle.std.specs.List.{list_all};
-ghost use Rattle.csv_sniffer.specs.KeptTypes.{is_plain_number};
+ghost use Rattle.value_types.specs.KeptTypes.{is_plain_number};
 
 /// Whether all bytes are digits.
 #[inline(always)]

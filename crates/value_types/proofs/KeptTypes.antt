@@ -11,10 +11,10 @@ use Rattle.value_types.specs.Cast.{date_of, stamp_of, time_behind_date, trimmed}
 use Rattle.value_types.specs.ClockTime.{day_micros}
 use Rattle.value_types.specs.OfType.{is_of_type}
 use Rattle.value_types.proofs.CastSteps.{no_date_of_length, stamp_with_time}
-use Rattle.csv_sniffer.specs.declared.possible_types.PossibleTypes.{PossibleTypes}
-use Rattle.csv_sniffer.specs.KeptTypes.{is_settled, keeps, keeps_number, keeps_type}
-use Rattle.csv_sniffer.specs.PossibleTypes.{narrowed, narrowed_by}
-use Rattle.csv_sniffer.proofs.PlainNumbers.{plain_is_bigint}
+use Rattle.value_types.specs.declared.possible_types.PossibleTypes.{PossibleTypes}
+use Rattle.value_types.specs.KeptTypes.{is_settled, keeps, keeps_number, keeps_type}
+use Rattle.value_types.specs.PossibleTypes.{narrowed, narrowed_by}
+use Rattle.value_types.proofs.PlainNumbers.{plain_is_bigint}
 
 -- ---- a text that spells a date spells a timestamp too
 

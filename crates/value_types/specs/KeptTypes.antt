@@ -6,7 +6,7 @@ use Rattle.value_types.specs.declared.types.ColumnType.{ColumnType}
 use Rattle.value_types.specs.declared.types.ColumnType.TheVariants as types
 use Rattle.value_types.specs.OfType.{is_of_type}
 use Rattle.value_types.specs.Plain.{is_plain}
-use Rattle.csv_sniffer.specs.declared.possible_types.PossibleTypes.{PossibleTypes}
+use Rattle.value_types.specs.declared.possible_types.PossibleTypes.{PossibleTypes}
 
 -- whether a type stays as possible as it was with one value more
 abbrev pub keeps_type : Bool → List ℕ → ColumnType → Bool

@@ -1,6 +1,6 @@
 use Rattle.std.specs.Prelude.{slice_range}
 use Rattle.csv_sniffer.proofs.KeptRows.{values_clock, values_letters, values_numerals, values_stamp}
-use Rattle.csv_sniffer.proofs.possible_types.PossibleTypes.kept_front.Goals as goal
+use Rattle.value_types.proofs.possible_types.PossibleTypes.kept_front.Goals as goal
 
 pub returns-in_ok-boolean_front-in-Some-Boolean-clause-plain : goal.returns-in_ok-boolean_front-in-Some-Boolean-clause-plain
 returns-in_ok-boolean_front-in-Some-Boolean-clause-plain c = values_letters (slice_range c.args.bytes.now c.args.from c.in_ok-boolean_front-in-Some-Boolean.field-0.end) c.in_ok-boolean_front-in-Some-Boolean.ensures.plain

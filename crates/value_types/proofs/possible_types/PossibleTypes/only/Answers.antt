@@ -1,6 +1,6 @@
 use Rattle.std.proofs.Common.{arith}
-use Rattle.csv_sniffer.proofs.KeptTypes.{keeps_by_date}
-use Rattle.csv_sniffer.proofs.possible_types.PossibleTypes.only.Goals as goal
+use Rattle.value_types.proofs.KeptTypes.{keeps_by_date}
+use Rattle.value_types.proofs.possible_types.PossibleTypes.only.Goals as goal
 
 pub returns-in-false-true-false-default : goal.returns-in-false-true-false-default
 returns-in-false-true-false-default c text is =
