@@ -169,7 +169,7 @@ read <- function() csvload("hard rows.csv", delim = ",", quote = "\\"", escape =
     types = c("BIGINT", "BOOLEAN", "DATE", "TIME", "TIMESTAMP", "VARCHAR"), max_errors = 100000, ignore_errors = TRUE)
 table <- read()
 cat(vapply(table, function(column) class(column)[1], ""), "\\n")
-cat(inherits(try(csvload("hard rows.csv", output = "rows"), silent = TRUE), "try-error"), file.exists("rows"), csvload("--help")$a, "\\n")
+cat(inherits(try(csvload("hard rows.csv", output = "rows"), silent = TRUE), "try-error"), file.exists("rows"), as.character(csvload("--help")$a), "\\n")
 table$day <- as.integer(table$day)
 for (column in table) for (cell in as.character(column))
     cat(if (is.na(cell)) "NA" else paste(c("=", charToRaw(cell)), collapse = ""), "\\n", sep = "")
