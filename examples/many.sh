@@ -7,7 +7,7 @@
 # what is found in the first file, by the order of the names. Faulty rows are left out and stand in INTO/rejects.csv, the file's
 # name before each. A result stands in INTO only when it is whole: what failed is named at the end, with status 1, and the next
 # call does that and what is newer than its result; of another FOLDER, under other words, or where other ones fit the first file,
-# it does all anew. With status 2 nothing was begun.
+# it does all anew. With status 2 nothing was begun, and no file that was there is touched.
 # Further words are csvload's own options. Options of GNU parallel, as --jobs 4 or --sshlogin one,other, stand in the variable
 # PARALLEL; other machines must see both folders under the same names. CSVLOAD names the program.
 set -euo pipefail
