@@ -216,7 +216,7 @@ def check_deb(path: pathlib.Path, folder: pathlib.Path) -> int:
 
 
 def check_proved_alone(tree: pathlib.Path, folder: pathlib.Path, commit: str) -> None:
-    """Without --built the program is made first; without dpkg-deb there is the tar alone, which is said."""
+    """Without --built the program is made first; without dpkg-deb there is the tar alone, and without rt nothing, which is said."""
     for path in (*(tree / "out").glob("csvload*"), tree / "crates" / "csvload" / "out" / "csvload"):
         path.unlink()
     status, said = run(["./package.sh", "out/gate"], tree, only(folder, "rt", "others"))
@@ -226,6 +226,10 @@ def check_proved_alone(tree: pathlib.Path, folder: pathlib.Path, commit: str) ->
         archive.extractall(folder / "proved")
     (top,) = (folder / "proved").iterdir()
     check_proved(top / "share/doc/csvload", commit, "proved and built by rt run")
+    lack = "no program 'rt'"
+    same(run(["./package.sh"], tree, only(folder, "others")), (1, f"package.sh: {lack}\n"))
+    beside = "which is Rattle's toolchain; a package needs none"
+    same(run(["./install.sh"], tree, only(folder, "others")), (1, f"install.sh: {lack}, {beside}\n"))
 
 
 def check_refusals(tree: pathlib.Path, environment: dict[str, str]) -> None:
