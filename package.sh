@@ -25,6 +25,13 @@ if [ "${1-}" = --built ]; then
     shown='program: as it stood in crates/csvload/out'
     shift
 fi
+case $#${1-} in
+    0 | 1[!-]*) ;;
+    *)
+        sed -n '4,5s/^#  *//p' "$0" >&2
+        exit 1
+        ;;
+esac
 gate='gate: not shown'
 if [ $# -gt 0 ]; then
     gate=$(grep -x '[0-9]* passed, 0 failed' -- "$1" | tail -n 1)

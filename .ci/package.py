@@ -238,6 +238,9 @@ def check_refusals(tree: pathlib.Path, environment: dict[str, str]) -> None:
     (tree / "out" / "failed").write_text("33 passed, 1 failed\n")
     line = "no line 'N passed, 0 failed' in 'out/failed'"
     same(run(["./package.sh", "out/failed"], tree, environment), (1, f"package.sh: {line}\n"))
+    for words in (["--help"], ["out/gate", "--built"], ["--built", "out/gate", "more"], [""]):
+        status, said = run(["./package.sh", *words], tree, environment)
+        same((status, said.split()[:2]), (1, ["package.sh", "[GATE]"]))
     (tree / "docs" / "new").write_text("")
     line = "the checkout has changes that aren't committed"
     same(run(["./package.sh", "--built"], tree, environment), (1, f"package.sh: {line}\n"))
