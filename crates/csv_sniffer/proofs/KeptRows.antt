@@ -2,8 +2,7 @@
 use Rattle.std.proofs.Common.{◌≡◌, ℕ, ◌+◌, ◌<◌, ◌≤◌, ◌⊎◌, Bool, true, false, cond, List, [], ◌∷◌, length, get_or, Some, None, refl, sym, ◌∙◌, ap, subst, ◌≢◌, inl, inr, arith}
 use Rattle.std.specs.Prelude.{slice_get, slice_range, option_and_then}
 use Rattle.std.specs.List.{list_all}
-use Rattle.std.specs.Char.{is_ascii_alphabetic}
-use Rattle.std.proofs.lemmas.Bool.{and_from, and_parts, cases_lt}
+use Rattle.std.proofs.lemmas.Bool.{cases_lt}
 use Rattle.std.proofs.lemmas.Bool.Decides.{eqb_tells}
 use Rattle.byte_classes.specs.Dialect.{Marks}
 use Rattle.byte_classes.specs.Class.{class_of}
@@ -16,8 +15,6 @@ use Rattle.row_fields.specs.Plain.{LeavesPlain}
 use Rattle.row_fields.specs.Reading.{ReadsField, field_of}
 use Rattle.row_fields.proofs.FirstFields.{HasRest, field_before_delim, field_before_line_end, rest_behind}
 use Rattle.row_fields.proofs.PlainReading.{bare_field_of, delim_stops, line_end_stops, reads_plain}
-use Rattle.value_types.specs.Digits.{is_numeral}
-use Rattle.value_types.specs.Plain.{is_clock_byte, is_stamp_byte}
 use Rattle.load_options.specs.declared.options.Options.{Options}
 use Rattle.value_types.specs.declared.possible_types.PossibleTypes.{PossibleTypes}
 use Rattle.csv_sniffer.specs.ColumnTypes.{is_null_field, value_unless_null}
@@ -25,24 +22,6 @@ use Rattle.value_types.specs.KeptTypes.{is_settled, is_value_byte, keeps}
 use Rattle.value_types.specs.PossibleTypes.{narrowed_by}
 use Rattle.csv_sniffer.specs.PossibleTypes.{column_value}
 use Rattle.value_types.proofs.KeptTypes.{kept, settled}
-
--- ---- bytes of values
-
-all_weaker : (p q : ℕ → Bool) → ((b : ℕ) → p b ≡ true → q b ≡ true) → (bytes : List ℕ) → list_all p bytes ≡ true → list_all q bytes ≡ true
-all_weaker p q weaker [] all = refl
-all_weaker p q weaker (b ∷ bytes) all = let parts = and_parts (p b) (list_all p bytes) all in and_from _ _ (weaker b parts.0) (all_weaker p q weaker bytes parts.1)
-
-pub values_letters : (bytes : List ℕ) → list_all is_ascii_alphabetic bytes ≡ true → list_all is_value_byte bytes ≡ true
-values_letters bytes all = all_weaker is_ascii_alphabetic is_value_byte (λ b is. grind (arith, is)) bytes all
-
-pub values_numerals : (bytes : List ℕ) → list_all is_numeral bytes ≡ true → list_all is_value_byte bytes ≡ true
-values_numerals bytes all = all_weaker is_numeral is_value_byte (λ b is. grind (arith, is)) bytes all
-
-pub values_clock : (bytes : List ℕ) → list_all is_clock_byte bytes ≡ true → list_all is_value_byte bytes ≡ true
-values_clock bytes all = all_weaker is_clock_byte is_value_byte (λ b is. grind (arith, is)) bytes all
-
-pub values_stamp : (bytes : List ℕ) → list_all is_stamp_byte bytes ≡ true → list_all is_value_byte bytes ≡ true
-values_stamp bytes all = all_weaker is_stamp_byte is_value_byte (λ b is. grind (arith, is)) bytes all
 
 -- ---- a value that is kept
 

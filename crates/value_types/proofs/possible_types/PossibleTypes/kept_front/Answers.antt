@@ -1,5 +1,5 @@
 use Rattle.std.specs.Prelude.{slice_range}
-use Rattle.csv_sniffer.proofs.KeptRows.{values_clock, values_letters, values_numerals, values_stamp}
+use Rattle.value_types.proofs.ValueBytes.{values_clock, values_letters, values_numerals, values_stamp}
 use Rattle.value_types.proofs.possible_types.PossibleTypes.kept_front.Goals as goal
 
 pub returns-in_ok-boolean_front-in-Some-Boolean-clause-plain : goal.returns-in_ok-boolean_front-in-Some-Boolean-clause-plain
