@@ -1,45 +1,21 @@
 -- The values of columns, with one row more.
-use Rattle.std.proofs.Common.{◌≡◌, ◌≢◌, ℕ, ◌+◌, ◌<◌, ◌≤◌, Bool, true, false, cond, List, [], ◌∷◌, ◌++◌, length, get_or, set, Option, Some, None, refl, sym, ap, ◌∙◌, append_assoc, append-nil, arith, inl, inr}
-use Rattle.std.specs.Prelude.{filter, slice_get}
+use Rattle.std.proofs.Common.{◌≡◌, ◌≢◌, ℕ, ◌+◌, ◌<◌, ◌≤◌, true, false, cond, List, [], ◌∷◌, ◌++◌, length, get_or, set, Option, Some, None, refl, sym, ap, ◌∙◌, append_assoc, append-nil, arith, inl, inr}
+use Rattle.std.specs.Prelude.{filter}
 use Rattle.std.specs.List.{cons_option, filter_map}
-use Rattle.std.specs.Option.{option_map, option_and_then}
 use Rattle.std.proofs.lemmas.List.{get_or-set_other, get_or_default}
 use Rattle.std.proofs.lemmas.Grind.{get_or-set_at}
 use Rattle.std.proofs.lemmas.Bool.Decides.{eqb_tells}
 use Rattle.std.proofs.lemmas.List.FromFn.{fill_by_all, get_or-map-range_with_len, length-map-range_with_len}
 use Rattle.byte_classes.specs.Dialect.{Marks}
-use Rattle.row_fields.specs.Fields.{Field, fields}
+use Rattle.row_fields.specs.Fields.{fields}
 use Rattle.load_options.specs.declared.options.Options.{Options}
 use Rattle.dialect_rank.specs.Sampled.{Span, span_bytes}
-use Rattle.csv_sniffer.specs.ColumnTypes.{agrees, value_unless_null}
+use Rattle.csv_sniffer.specs.ColumnTypes.{agrees}
 use Rattle.csv_sniffer.specs.Columns.{HasValues, column_sample, column_samples, no_samples, with_entries}
-use Rattle.csv_sniffer.specs.Entries.{entry_of, entry_in, entries_in, line_at}
-use Rattle.csv_sniffer.specs.PossibleTypes.{column_value}
+use Rattle.csv_sniffer.specs.Entries.{entry_in, entries_in, line_at}
 use Rattle.csv_sniffer.specs.declared.explaining.entries.ColumnSample.{ColumnSample}
 use Rattle.csv_sniffer.specs.declared.explaining.entries.Entry.{Entry}
 use Rattle.csv_sniffer.specs.declared.found.Sniffed.{Sniffed}
-
--- ---- one field
-
-module _ (o : Options) (line : ℕ) where
-  some_field : (f : Option Field) (quoted : Bool) (value : List ℕ) → option_map (λ (g : Field). g.quoted) f ≡ Some quoted → option_and_then (value_unless_null o) f ≡ Some value →
-      option_and_then (entry_of o line) f ≡ Some (record { line = line; quoted = quoted; value = value })
-  some_field None quoted value q v = absurd (let no : ⊥ = cc in no)
-  some_field (Some f) quoted value q v =
-      let same : f.quoted ≡ quoted = cc in
-      ap (option_map (λ text. record { line = line; quoted = f.quoted; value = text })) v
-      ∙ ap (λ b. Some (record { line = line; quoted = b; value = value })) same
-
-  no_field : (f : Option Field) → option_and_then (value_unless_null o) f ≡ None → option_and_then (entry_of o line) f ≡ None
-  no_field None v = refl
-  no_field (Some f) v = ap (option_map (λ text. record { line = line; quoted = f.quoted; value = text })) v
-
-  pub entry_there : (row : List Field) (column : ℕ) (quoted : Bool) (value : List ℕ) → option_map (λ (g : Field). g.quoted) (slice_get row column) ≡ Some quoted →
-      column_value o row column ≡ Some value → entry_in o line row column ≡ Some (record { line = line; quoted = quoted; value = value })
-  entry_there row column quoted value q v = some_field (slice_get row column) quoted value q v
-
-  pub entry_absent : (row : List Field) (column : ℕ) → column_value o row column ≡ None → entry_in o line row column ≡ None
-  entry_absent row column v = no_field (slice_get row column) v
 
 -- a column with no further values
 pub with_none : (c : ColumnSample) → with_entries c [] ≡ c
@@ -112,9 +88,6 @@ module _ (o : Options) (d : Marks) (front sample : List ℕ) (start : List Colum
       }
 
 -- ---- all rows
-
-pub values_of_none : (o : Options) (d : Marks) (front sample : List ℕ) (start : List ColumnSample) (spans : List Span) → HasValues o d front sample start spans spans start
-values_of_none o d front sample start spans = record { count = refl; each = λ k c lt. refl }
 
 pub values_of_all : (o : Options) (s : Sniffed) (front sample : List ℕ) (spans left : List Span) (now : List ColumnSample) → left ≡ [] →
     HasValues o s.dialect front sample (no_samples o s) spans left now → now ≡ column_samples o s front sample spans

@@ -1,6 +1,7 @@
 //! The names of columns, made different.
 ghost use Rattle.std.specs.Prelude.{◌≡◌, ◌<◌, ◌^◌, true, IfOk, OnOk, IfSome, length};
 ghost use Rattle.std.specs.Option.{option_copied};
+ghost use Rattle.byte_classes.specs.Dialect.{Marks};
 ghost use Rattle.row_fields.specs.Split.{IsSplit};
 ghost use Rattle.csv_sniffer.specs.ColumnNames.{with_number, is_key, first_free, NumbersAreTaken, detected_names};
 ghost use Rattle.csv_sniffer.specs.Rows.{AreRows, row_texts};
@@ -69,8 +70,32 @@ fn header_row<'a>(
     }
 }
 
-/// The names of the columns, made different from left to right. Names that are taken are found by a hash, and so is the
-/// number up to which a name is known to be taken.
+/// The names of columns by a header's row, made different from left to right. Names that are taken are found by a hash, and
+/// so is the number up to which a name is known to be taken.
+fn names_by(
+    alloc: Global,
+    row: Option<&[u8]>,
+    fields: &Fields,
+    columns: usize,
+) -> Result<Names, NoMemory>
+    requires fits { IfSome row (λ bytes. length bytes.now ≡ fields.now.row_len) }
+    requires few { columns < 2 ^ 63 }
+    ensures { (d : Marks) → IfSome row.entry (λ bytes. IsSplit d bytes.now fields.now) →
+        IfOk result (λ names. names ≡ detected_names d columns (option_copied row.entry)) }
+{
+    let mut names = Names::new(alloc);
+    let mut taken = HashSet::new(alloc);
+    let mut numbers = HashMap::new(alloc);
+    for column in 0..columns {
+        let wanted = wanted_name(alloc, row, fields, column)?;
+        let name = first_free(alloc, &taken, &mut numbers, wanted)?;
+        names.push(&name)?;
+        taken.insert(name)?;
+    }
+    Ok(names)
+}
+
+/// The names of the columns, by the header if there is one.
 pub fn detected_names(
     alloc: Global,
     rows: &SampledRows,
@@ -85,14 +110,5 @@ pub fn detected_names(
 {
     let mut fields = Fields::new(alloc);
     let row = header_row(rows, header, &mut fields)?;
-    let mut names = Names::new(alloc);
-    let mut taken = HashSet::new(alloc);
-    let mut numbers = HashMap::new(alloc);
-    for column in 0..columns {
-        let wanted = wanted_name(alloc, row, &fields, column)?;
-        let name = first_free(alloc, &taken, &mut numbers, wanted)?;
-        names.push(&name)?;
-        taken.insert(name)?;
-    }
-    Ok(names)
+    names_by(alloc, row, &fields, columns)
 }

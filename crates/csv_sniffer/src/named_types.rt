@@ -56,6 +56,24 @@ fn final_type(
     }
 }
 
+/// The types of columns of these names, by the places of names that are given.
+fn typed_by(
+    alloc: Global,
+    given: &ColumnTypes,
+    places: &HashMap<&[u8], usize>,
+    names: &Names,
+    found: &Types,
+) -> Result<Types, NoMemory>
+    requires places { ArePlaces given.now.names places.now.entries (λ name. name.now) }
+    ensures { IfOk result (λ types. types ≡ types_by_name given.now names.now found.now) }
+{
+    let mut types = Types::new(alloc);
+    for column in 0..found.len() {
+        types.push(final_type(given, places, names, found, column))?;
+    }
+    Ok(types)
+}
+
 /// The types of columns of these names: each the one that is given to its name, else the one found.
 pub fn types_by_name(
     alloc: Global,
@@ -69,11 +87,7 @@ pub fn types_by_name(
         return Ok(found);
     }
     let places = places_of(alloc, &given.names)?;
-    let mut types = Types::new(alloc);
-    for column in 0..found.len() {
-        types.push(final_type(given, &places, names, &found, column))?;
-    }
-    Ok(types)
+    typed_by(alloc, given, &places, names, &found)
 }
 
 /// The first name of given types that no column has.

@@ -1,4 +1,4 @@
-use Rattle.std.proofs.Common.{◌∙◌, ap, arith, refl, sym}
+use Rattle.std.proofs.Common.{◌∙◌, ap, arith, sym}
 use Rattle.std.specs.Prelude.{None}
 use Rattle.std.specs.List.{position_or_len}
 use Rattle.dialect_rank.specs.Alike.{reads_alike}
