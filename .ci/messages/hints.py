@@ -1,4 +1,4 @@
-"""Hints after an answer: at another delimiter, where one column was found, and at a first line that is no row."""
+"""Hints after an answer: at another delimiter, where one column was found, at lines and a first line that are no rows, and at a quote that quotes nothing."""
 
 from messages.runs import Case, check, run, same
 
@@ -63,6 +63,56 @@ def check_skip() -> None:
     assert (status, said) == (0, "") and b"column|1|VARCHAR|name\nrow|1|Ana\n" in text, (text, said)
 
 
+def comment(lines: str, them: str) -> str:
+    return f"csvload: hint: {lines} with '#'; 'comment=#' passes over {them}\n"
+
+
+ONE, TWO = comment("1 line begins", "it"), comment("2 lines begin", "them")
+
+# Files with lines that look like comment lines, each beside one that misses that by a byte.
+COMMENTED = [
+    (b"# a\nid,n\n1,2\n", ONE),
+    (b"# a\nid,n\n# b\n1,2\n3,4\n", TWO),
+    (b"#a,b\n1,2\n3,4\n", ""),
+    (b"id,n\n#ff0000,1\n#00ff00,2\n", ""),
+    (b"id\n# a\n# b\n1\n", TWO),
+    (b"id\n# a\n1\n2\n", ""),
+    (b"# a\n# b\n# c\n", ""),
+    (b" # a\nid,n\n1,2\n", ""),
+    (b"id,n\n\"#\",2\n#\n3,4\n", ONE),
+]
+
+QUOTE = "csvload: hint: the quote ' was found, and no field is quoted by it; 'quote=' takes it as text\n"
+
+# Files in which the quote ' is found, by which a field is quoted or none.
+QUOTED = [
+    (b'n,s\n1,"b\n2,"d\n', QUOTE),
+    (b"n,s\n1,\"b\n2,'d'\n3,\"e\n", ""),
+    (b'n,s\n1,"b"\n2,"d"\n', ""),
+]
+
+
+def check_noticed() -> None:
+    """A hint comes after each answer but that of `explain`, and is silenced by its option."""
+    for rows, hint, options in [(*COMMENTED[0], ["comment=", "comment=#"]), (*QUOTED[0], ["quote=", "quote='"])]:
+        for command in COMMANDS:
+            status, _, said = run([command, "f.csv"], {"f.csv": rows})
+            same((status, said), (0, hint), command)
+            for option in options:
+                same(run([command, "f.csv", option], {"f.csv": rows})[2], "", option)
+        assert hint not in run(["sniff", "f.csv", "explain=true"], {"f.csv": rows})[2]
+    for rows, hint in COMMENTED + QUOTED:
+        same(run(["load", "f.csv", "null_padding=true"], {"f.csv": rows})[2], hint, rows)
+    # Of several files the first one is meant.
+    plain = b"id,n\n1,2\n"
+    same(run(["batch", "f.csv,g.csv"], {"f.csv": COMMENTED[0][0], "g.csv": plain})[2], ONE, "the first of two")
+    same(run(["batch", "g.csv,f.csv", "null_padding=true", "all_varchar=true"], {"f.csv": COMMENTED[0][0], "g.csv": plain})[2], "", "the second of two")
+    # What the hint says is so.
+    status, text, said = run(["load", "f.csv", "comment=#"], {"f.csv": COMMENTED[1][0]})
+    assert (status, said) == (0, "") and b"\nrow|1|2\nrow|3|4\nrows|2\n" in text, (text, said)
+
+
 def main() -> None:
     check(HINTS)
     check_skip()
+    check_noticed()

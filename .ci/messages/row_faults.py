@@ -199,6 +199,8 @@ HELPS = [
     helped(["load", "f.csv", "delim=,"], THREE + b"\x1a", "byte 1A ends a file of DOS; ignore_errors=true passes over it"),
     helped(["load", "f.csv", "delim=,"], THREE + b"\x1a\n5,6\n", "null_padding=true takes missing columns as null; " + ANY),
     helped(["load", "f.csv", "delim=,"], THREE + b"\x1bb", "null_padding=true takes missing columns as null; " + ANY),
+    helped(["load", "f.csv", "delim=,"], THREE + b"# c\n5,6\n", "comment=# passes over lines that begin with #; " + ANY),
+    helped(["load", "f.csv", "delim=,", "comment="], THREE + b"# c\n5,6\n", "null_padding=true takes missing columns as null; " + ANY),
     # too many
     helped(["load", "f.csv", "delim=,", "nullstr=n a"], THREE + b"1,2,3\n", "csvload sniff f.csv explain=true delim=, 'nullstr=n a' tells how the rows are cut; " + ANY),
     helped(["load", "f.csv", "delim=,", "nullstr=" + "n" * 60], THREE + b"1,2,3\n", "csvload sniff f.csv explain=true, with the same words tells how the rows are cut; " + ANY),

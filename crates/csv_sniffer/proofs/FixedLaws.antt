@@ -1,12 +1,14 @@
 -- With what was found given, the same is found.
-use Rattle.std.proofs.Common.{◌≡◌, ℕ, ◌≤◌, Bool, cond, true, false, not, ◌&&◌, List, [], ◌∷◌, length, map, max, Some, None, replicate, refl, sym, ap, subst, ◌∙◌, arith, inl, inr}
+use Rattle.std.proofs.Common.{◌≡◌, ℕ, ◌≤◌, Bool, cond, true, false, not, ◌&&◌, ◌==◌, List, [], ◌∷◌, length, map, max, Option, Some, None, replicate, refl, sym, ap, subst, ◌∙◌, arith, inl, inr}
+use Rattle.std.specs.Str.{byte}
 use Rattle.std.proofs.lemmas.Bool.{and_parts, cases_Bool, not-true}
-use Rattle.byte_classes.specs.Dialect.{Marks}
+use Rattle.byte_classes.specs.Dialect.{Marks, is_byte}
 use Rattle.value_types.specs.declared.types.ColumnType.{ColumnType}
 use Rattle.value_types.specs.declared.types.ColumnType.TheVariants as types
 use Rattle.load_options.specs.declared.options.Options.{Options}
 use Rattle.load_options.specs.Accepted.{IsAccepted}
 use Rattle.csv_source.specs.Lists.{is_empty}
+use Rattle.dialect_rank.specs.Candidates.{choice_of}
 use Rattle.dialect_rank.specs.Sampled.{Span, span_bytes, sampled_spans}
 use Rattle.dialect_rank.specs.Score.{score_rows}
 use Rattle.csv_sniffer.specs.ColumnNames.{final_names}
@@ -14,6 +16,7 @@ use Rattle.csv_sniffer.specs.ColumnTypes.{final_types, detected_types}
 use Rattle.csv_sniffer.specs.Fixed.{fixed, fixed_types, fixes_types}
 use Rattle.csv_sniffer.specs.LineEnd.{newline_of}
 use Rattle.csv_sniffer.specs.NamedTypes.{types_by_name}
+use Rattle.csv_sniffer.specs.Noticed.{idle_quote, is_detected, noticed_again}
 use Rattle.csv_sniffer.specs.Sniffed.{column_count, has_whole_row, has_header, first_if, behind_first_if, behind_row, sniffed_under, sniffed}
 use Rattle.csv_sniffer.specs.declared.found.Sniffed.{Sniffed}
 use Rattle.csv_sniffer.proofs.FixedDialect.{chosen_again}
@@ -81,6 +84,11 @@ module _ (o : Options) (s : Sniffed) (d : Marks) (mode : ℕ) (is_many : length 
         ∙ sym is
   ]
 
+-- a quote that is given isn't hinted at
+none_idle : (quote : Option ℕ) (closed : ℕ) → cond (is_detected (choice_of quote) && not (is_byte quote (byte "\"")) && (closed == 0)) quote None ≡ None
+none_idle None closed = refl
+none_idle (Some quote) closed = refl
+
 -- ---- all that is found
 
 module _ (o : Options) (sample : List ℕ) (whole : Bool) (accepted : IsAccepted o) where
@@ -116,11 +124,12 @@ module _ (o : Options) (sample : List ℕ) (whole : Bool) (accepted : IsAccepted
   types_are : types_by_name o.column_types s.names (final_types again d (column_count o mode) (behind_first_if s.header rows)) ≡ s.types
   types_are = types_again o s d mode length-sniffed_types s.names (behind_first_if s.header rows) refl
 
-  under_again : sniffed_under again sample whole d spans ≡ record s { other_delim = None }
+  under_again : sniffed_under again sample whole d spans ≡ record s { noticed = noticed_again s.noticed }
   under_again =
       let typed =
       (λ i. types_by_name o.column_types (final_names o.names d (count_is i) (first_if (header_is i) rows)) (final_types again d (count_is i) (behind_first_if (header_is i) rows)))
-      ∙ types_are in λ i. record {
+      ∙ types_are in
+      let idle_again : idle_quote again d (score_rows d rows) ≡ None = none_idle d.quote (score_rows d rows).closed in λ i. record {
         dialect = d;
         newline = newline_of sample spans;
         skip = o.skip;
@@ -128,9 +137,9 @@ module _ (o : Options) (sample : List ℕ) (whole : Bool) (accepted : IsAccepted
         names = final_names o.names d (count_is i) (first_if (header_is i) rows);
         types = typed i;
         data_start = behind_row sample (first_if (header_is i) spans);
-        other_delim = None;
+        noticed = record s.noticed { other_delim = None; idle_quote = idle_again i };
       }
 
-  pub sniffed_again : sniffed again sample whole ≡ record s { other_delim = None }
+  pub sniffed_again : sniffed again sample whole ≡ record s { noticed = noticed_again s.noticed }
   sniffed_again =
       ap (λ e. sniffed_under again sample whole e (sampled_spans e sample whole o.sample_size)) (chosen_again o sample whole accepted (Some s.header) (fixed_types o s) sample whole) ∙ under_again

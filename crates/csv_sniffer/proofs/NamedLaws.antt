@@ -45,12 +45,6 @@ some_given given (name ∷ names) [] some e = absurd (let no : ⊥ = cc in no)
 some_given given (name ∷ names) (ty ∷ types) some e =
     let first : type_given given name ≡ Some ty = cc in placed given.names given.types name ty first
 
--- and no types are given in another way
-untyped : (a b : Bool) → a ≡ false → (not a && not b) ≡ false → b ≡ true
-untyped true b e h = absurd (let no : ⊥ = cc in no)
-untyped false true e h = refl
-untyped false false e h = absurd (let no : ⊥ = cc in no)
-
 not_varchar : (v a : Bool) → a ≡ false → (v && not a) ≡ false → v ≡ false
 not_varchar v true e h = absurd (let no : ⊥ = cc in no)
 not_varchar true false e h = absurd (let no : ⊥ = cc in no)
@@ -121,5 +115,5 @@ module _ (o : Options) (sample : List ℕ) (whole : Bool) (types : List ColumnTy
         names = named i;
         types = typed i;
         data_start = behind_row sample (first_if (same i) spans);
-        other_delim = (sniffed o sample whole).other_delim;
+        noticed = (sniffed o sample whole).noticed;
       }

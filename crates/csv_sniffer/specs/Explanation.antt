@@ -7,7 +7,6 @@ use Rattle.csv_sniffer.specs.Columns.{column_samples}
 use Rattle.csv_sniffer.specs.ExplanationView.{ExplanationView}
 use Rattle.csv_sniffer.specs.Fixed.{fixes_types}
 use Rattle.csv_sniffer.specs.Hints.{hints_of}
-use Rattle.csv_sniffer.specs.Rows.{row_texts}
 use Rattle.csv_sniffer.specs.Sample.{start_of_sample, sample_of, is_whole}
 use Rattle.csv_sniffer.specs.Sniffed.{behind_first_if}
 use Rattle.csv_sniffer.specs.Whys.{whys_of}
@@ -21,7 +20,7 @@ explanation_in o front sample whole s =
       candidates = in_rank_order (scored_candidates o sample whole);
       fixes_types = fixes_types o s;
       whys = flat_map whys_of columns;
-      hints = hints_of o s s.dialect (row_texts sample spans) columns;
+      hints = hints_of o s sample columns;
     }
 
 -- the explanation of what was found in an input

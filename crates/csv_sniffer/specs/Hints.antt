@@ -1,34 +1,22 @@
 -- Words that may be worth a try (this loader's profile).
-use Rattle.std.specs.Prelude.{ℕ, ◌==◌, ◌&&◌, ◌||◌, not, Bool, true, false, if◌then◌else◌, List, [], ◌∷◌, ◌++◌, map, filter, flat_map, codes, Option, Some, None}
+use Rattle.std.specs.Prelude.{ℕ, ◌==◌, ◌&&◌, ◌||◌, not, nat_lt, Bool, false, if◌then◌else◌, List, [], ◌∷◌, ◌++◌, map, filter, flat_map, codes, Option, Some, None}
 use Rattle.std.specs.List.{list_any}
-use Rattle.std.specs.Option.{is_none}
+use Rattle.std.specs.Option.{is_some}
 use Rattle.std.specs.Char.{is_ascii_digit}
 use Rattle.std.specs.Str.{byte, bytes_eq}
-use Rattle.byte_classes.specs.Dialect.{Marks}
-use Rattle.byte_classes.specs.Fault.{has_byte}
 use Rattle.value_types.specs.declared.types.ColumnType.{ColumnType}
 use Rattle.value_types.specs.declared.types.ColumnType.TheVariants as types
 use Rattle.value_types.specs.OfType.{same_type}
 use Rattle.load_options.specs.declared.options.Options.{Options}
 use Rattle.csv_source.specs.Lists.{is_empty}
 use Rattle.csv_sniffer.specs.ColumnTypes.{type_of_values}
+use Rattle.csv_sniffer.specs.SeparatorLine.{tells_delimiter}
 use Rattle.csv_sniffer.specs.Header.{is_varchar}
 use Rattle.csv_sniffer.specs.declared.explaining.entries.ColumnSample.{ColumnSample}
 use Rattle.csv_sniffer.specs.declared.explaining.entries.Entry.{Entry}
 use Rattle.csv_sniffer.specs.declared.explaining.hints.Hint.{Hint}
 use Rattle.csv_sniffer.specs.declared.explaining.hints.Hint.TheVariants as hints
 use Rattle.csv_sniffer.specs.declared.found.Sniffed.{Sniffed}
-
--- ---- comment lines
-
--- whether some bytes begin with a byte
-abbrev pub begins_with : ℕ → List ℕ → Bool
-begins_with wanted [] = false
-begins_with wanted (b ∷ bytes) = b == wanted
-
--- a row begins with `#`, which is no byte of the dialect, and no comment byte is given
-abbrev pub has_comment : Options → Marks → List (List ℕ) → Bool
-has_comment o d rows = is_none o.comment && not (has_byte d (byte "#")) && list_any (begins_with (byte "#")) rows
 
 -- ---- leading zeros
 
@@ -69,9 +57,12 @@ abbrev pub delim_hints : Option ℕ → List Hint
 delim_hints None = []
 delim_hints (Some delim) = hints.Delim delim ∷ []
 
-abbrev pub comment_hints : Bool → List Hint
-comment_hints false = []
-comment_hints true = hints.Comment ∷ []
+abbrev pub hint_if : Bool → Hint → List Hint
+hint_if comes hint = if comes then hint ∷ [] else []
+
+-- no line is passed over, and the first one tells the delimiter to a spreadsheet
+abbrev pub may_skip : Options → List ℕ → Bool
+may_skip o sample = (o.skip == 0) && tells_delimiter sample
 
 abbrev pub zero_hint : ColumnSample → List Hint
 zero_hint column = if loses_zeros column then hints.Varchar column.name ∷ [] else []
@@ -86,7 +77,8 @@ null_hint o columns text = if list_any (is_freed o text) columns then hints.Null
 abbrev pub null_hints : Options → List ColumnSample → List Hint
 null_hints o columns = if may_name_nulls o then flat_map (null_hint o columns) tried_nulls else []
 
--- the delimiter that would cut more, the comment byte, and what would change the types of columns
-abbrev pub hints_of : Options → Sniffed → Marks → List (List ℕ) → List ColumnSample → List Hint
-hints_of o s d rows columns =
-    delim_hints s.other_delim ++ comment_hints (has_comment o d rows) ++ flat_map zero_hint columns ++ null_hints o columns
+-- what would cut rows otherwise, and what would change the types of columns
+abbrev pub hints_of : Options → Sniffed → List ℕ → List ColumnSample → List Hint
+hints_of o s sample columns =
+    delim_hints s.noticed.other_delim ++ hint_if (nat_lt 0 s.noticed.comment_lines) hints.Comment ++ hint_if (may_skip o sample) hints.Skip
+    ++ hint_if (is_some s.noticed.idle_quote) hints.Quote ++ flat_map zero_hint columns ++ null_hints o columns

@@ -80,6 +80,11 @@ impl FirstFault<'_> {
             && !is_given(self.words, "names")
     }
 
+    /// Whether rows look like comment lines, and nothing is said of these.
+    fn may_have_comments(&self) -> bool {
+        0 < self.sniffed.noticed.comment_lines && !is_given(self.words, "comment")
+    }
+
     /// Whether the row is the byte that ends a text of DOS, at the end of the file.
     fn is_dos_end(&self) -> bool {
         self.reject.csv_line.as_slice() == DOS_END
@@ -136,6 +141,10 @@ impl FirstFault<'_> {
         }
         if self.may_have_other_header() {
             let text = format!(in alloc; "same_header=true tells a file with another header")?;
+            return Ok(Help::Before(text));
+        }
+        if self.is_of_columns() && self.may_have_comments() {
+            let text = format!(in alloc; "comment=# passes over lines that begin with #")?;
             return Ok(Help::Before(text));
         }
         self.by_kind(alloc)

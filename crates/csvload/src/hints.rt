@@ -10,14 +10,47 @@ const MARK: &[u8] = b"\xef\xbb\xbf";
 const SEPARATOR: &str = "sep=";
 
 /// A hint at another delimiter, where one column was found. A tab is written as the option takes it.
-pub fn delim_hint(alloc: Global, delim: u8) -> Result<String, NoMemory> {
+pub fn delim_hint(alloc: Global, delim: Option<u8>) -> Result<Option<String>, NoMemory> {
+    let Some(delim) = delim else {
+        return Ok(None);
+    };
     let tab = delim == b'\t';
     let (escape, letter) = if tab {
         ("\\", 't')
     } else {
         ("", char::from(delim))
     };
-    Ok(format!(in alloc; "hint: most rows have one field; 'delim={escape}{letter}' may give more")?)
+    Ok(Some(format!(in alloc;
+        "hint: most rows have one field; 'delim={escape}{letter}' may give more"
+    )?))
+}
+
+/// A hint at lines that look like comment lines, so many of them, where nothing is said of them.
+pub fn comment_hint(
+    alloc: Global,
+    words: &[String],
+    lines: u64,
+) -> Result<Option<String>, NoMemory> {
+    if is_given(words, "comment") {
+        return Ok(None);
+    }
+    let (begin, them) = match lines {
+        0 => return Ok(None),
+        1 => (format!(in alloc; "1 line begins")?, "it"),
+        _ => (format!(in alloc; "{lines} lines begin")?, "them"),
+    };
+    Ok(Some(format!(in alloc; "hint: {begin} with '#'; 'comment=#' passes over {them}")?))
+}
+
+/// A hint at a quote by which no field is quoted.
+pub fn quote_hint(alloc: Global, quote: Option<u8>) -> Result<Option<String>, NoMemory> {
+    let Some(quote) = quote else {
+        return Ok(None);
+    };
+    let quote = char::from(quote);
+    Ok(Some(format!(in alloc;
+        "hint: the quote {quote} was found, and no field is quoted by it; 'quote=' takes it as text"
+    )?))
 }
 
 /// The first line of a file with these first bytes, without a mark and as far as they go.

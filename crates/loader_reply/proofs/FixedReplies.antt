@@ -5,6 +5,7 @@ use Rattle.load_options.specs.Accepted.{IsAccepted}
 use Rattle.column_taps.specs.Seen.{Seen}
 use Rattle.csv_sniffer.specs.Fixed.{fixed}
 use Rattle.csv_sniffer.specs.Input.{found}
+use Rattle.csv_sniffer.specs.Noticed.{noticed_again}
 use Rattle.csv_sniffer.specs.Sample.{start_of_sample, sample_of, is_whole}
 use Rattle.csv_sniffer.specs.declared.found.Sniffed.{Sniffed}
 use Rattle.csv_sniffer.proofs.FixedLaws.{sniffed_again}
@@ -33,9 +34,9 @@ either_way : (t : Bool) (a b c : Reply) → IsSameReply b c → IsSameReply (con
 either_way true a b c is = same a
 either_way false a b c is = is
 
--- without the hint at another delimiter
+-- without the hints at another delimiter and at the quote
 abbrev unhinted : Sniffed → Sniffed
-unhinted s = record s { other_delim = None }
+unhinted s = record s { noticed = noticed_again s.noticed }
 
 unless_alike : (a b : Reply) (before : Option Outcome) → IsSameReply a b → IsSameReply (unless_refused a before) (unless_refused b before)
 unless_alike a b None is = is

@@ -1,5 +1,5 @@
 -- How a run ends, as a value with what was found out, and as an exit status (this loader's profile).
-use Rattle.std.specs.Prelude.{ℕ}
+use Rattle.std.specs.Prelude.{ℕ, Some}
 use Rattle.report_text.specs.declared.outcome.Outcome.{Outcome}
 use Rattle.report_text.specs.declared.outcome.Outcome.TheVariants as outcomes
 use Rattle.report_text.specs.Report.{faults_in}
@@ -22,7 +22,7 @@ status_code TooManyFaults = 9
 
 -- the status of an ending, without what was found out
 abbrev pub ending_status : Ending → Status
-ending_status (endings.Answered faults delim) = Answered
+ending_status (endings.Answered faults noticed) = Answered
 ending_status (endings.Refused fault) = Refused
 ending_status endings.ReadFault = ReadFault
 ending_status (endings.FirstError s reject) = FirstError
@@ -42,9 +42,9 @@ ending_of outcomes.ReadFault = endings.ReadFault
 ending_of (outcomes.TooLarge limit) = endings.TooLarge limit
 ending_of (outcomes.Mismatch mismatch) = endings.Mismatch mismatch
 ending_of (outcomes.TooManyFaults bound) = endings.TooManyFaults bound
-ending_of (outcomes.Sniffed s) = endings.Answered (faults_in (outcomes.Sniffed s)) s.other_delim
-ending_of (outcomes.Explained s e) = endings.Answered (faults_in (outcomes.Explained s e)) s.other_delim
-ending_of (outcomes.Loaded l) = endings.Answered (faults_in (outcomes.Loaded l)) l.sniffed.other_delim
-ending_of (outcomes.Summary l tap_lines) = endings.Answered (faults_in (outcomes.Summary l tap_lines)) l.sniffed.other_delim
-ending_of (outcomes.Batch s batch store stats) = endings.Answered (faults_in (outcomes.Batch s batch store stats)) s.other_delim
+ending_of (outcomes.Sniffed s) = endings.Answered (faults_in (outcomes.Sniffed s)) (Some s.noticed)
+ending_of (outcomes.Explained s e) = endings.Answered (faults_in (outcomes.Explained s e)) (Some s.noticed)
+ending_of (outcomes.Loaded l) = endings.Answered (faults_in (outcomes.Loaded l)) (Some l.sniffed.noticed)
+ending_of (outcomes.Summary l tap_lines) = endings.Answered (faults_in (outcomes.Summary l tap_lines)) (Some l.sniffed.noticed)
+ending_of (outcomes.Batch s batch store stats) = endings.Answered (faults_in (outcomes.Batch s batch store stats)) (Some s.noticed)
 ending_of (outcomes.FirstError s reject) = endings.FirstError s reject

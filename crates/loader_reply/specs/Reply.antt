@@ -93,15 +93,15 @@ summary_reply l taps = outcome_reply (outcomes.Summary l (tap_lines taps l.table
 
 -- the rows under the names that were found
 abbrev pub written_reply : Sniffed → BatchView → Reply
-written_reply s batch = reply (endings.Answered (all_in batch.files) s.other_delim) (written_table s.names batch.rows)
+written_reply s batch = reply (endings.Answered (all_in batch.files) (Some s.noticed)) (written_table s.names batch.rows)
 
 abbrev pub database_reply : Options → Sniffed → BatchView → Reply
 database_reply o s batch =
-    reply (endings.Answered (all_in batch.files) s.other_delim) (database o.table s batch.rows (stored_files o.store_rejects batch.files))
+    reply (endings.Answered (all_in batch.files) (Some s.noticed)) (database o.table s batch.rows (stored_files o.store_rejects batch.files))
 
 -- the stored rejects of the first file
 abbrev pub rejects_reply : Options → Sniffed → BatchView → Reply
-rejects_reply o s batch = reply (endings.Answered (all_in batch.files) s.other_delim) (written_rejects (first_file o batch.files).book.stored)
+rejects_reply o s batch = reply (endings.Answered (all_in batch.files) (Some s.noticed)) (written_rejects (first_file o batch.files).book.stored)
 
 abbrev pub whole_reply : Answer → Options → Sniffed → List Seen → BatchView → Stats → Reply
 whole_reply answers.Loaded o s taps batch stats = outcome_reply (outcomes.Loaded (loaded_of o s batch stats))

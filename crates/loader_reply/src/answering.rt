@@ -109,9 +109,12 @@ impl<'a, R: Threads + Sync, G> Loader<'a, R, G> {
         requires { IsPrintableLoad loaded }
         ensures { IfOk result (λ r. r ≡ outcome_reply (outcomes.Loaded loaded)) }
     {
-        let (faults, delim) = (loaded.book.all(), loaded.sniffed.other_delim);
+        let (faults, noticed) = (loaded.book.all(), loaded.sniffed.noticed);
         let text = render_loaded(&self.workers(), loaded)?;
-        Ok(Reply::new(Ending::Answered(faults, delim), ReplyText::Report(text)))
+        Ok(Reply::new(
+            Ending::Answered(faults, Some(noticed)),
+            ReplyText::Report(text),
+        ))
     }
 
     /// The reply with the report of several files, rows and all.
@@ -121,13 +124,16 @@ impl<'a, R: Threads + Sync, G> Loader<'a, R, G> {
             IfOk result (λ r. r ≡ outcome_reply (outcomes.Batch sniffed batch o.store_rejects (then_some o.stats stats))) }
     {
         let faults = all_in(&batch)?;
-        let delim = sniffed.other_delim;
+        let noticed = sniffed.noticed;
         let (store, stats) = (
             self.options.store_rejects,
             self.options.stats.then_some(stats),
         );
         let text = render_batch(&self.workers(), &sniffed, batch, store, stats)?;
-        Ok(Reply::new(Ending::Answered(faults, delim), ReplyText::Report(text)))
+        Ok(Reply::new(
+            Ending::Answered(faults, Some(noticed)),
+            ReplyText::Report(text),
+        ))
     }
 
     /// The reply with the rows of files as CSV, under the names that were found.
@@ -138,7 +144,7 @@ impl<'a, R: Threads + Sync, G> Loader<'a, R, G> {
         let faults = all_in(&batch)?;
         let text = write_table(&self.workers(), &sniffed.names, batch.into_table())?;
         Ok(Reply::new(
-            Ending::Answered(faults, sniffed.other_delim),
+            Ending::Answered(faults, Some(sniffed.noticed)),
             ReplyText::Table(text),
         ))
     }

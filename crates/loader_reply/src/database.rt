@@ -49,7 +49,7 @@ impl<'a, R: Threads + Sync, G> Loader<'a, R, G> {
         };
         let text = write_database(self.rt, self.alloc, &contents, options.threads)?;
         Ok(Reply::new(
-            Ending::Answered(all_in(batch)?, sniffed.other_delim),
+            Ending::Answered(all_in(batch)?, Some(sniffed.noticed)),
             ReplyText::Whole(text),
         ))
     }

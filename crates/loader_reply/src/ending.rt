@@ -5,7 +5,7 @@ ghost use Rattle.loader_reply.specs.Ending.{ending_code, ending_of, ending_statu
 ghost use Rattle.loader_reply.specs.declared.status.Status.TheVariants as statuses;
 
 use crate::status::Status;
-use csv_sniffer::Sniffed;
+use csv_sniffer::{Noticed, Sniffed};
 use csv_source::NoMemory;
 use load_options::WordFault;
 use reject_book::Reject;
@@ -15,9 +15,9 @@ use report_text::{Mismatch, Outcome};
 #[derive(Drop)]
 pub enum Ending {
     /// The whole report, written table, database or made text was written. So many faults of rows were passed over, stored or not: 0
-    /// for `sniff` and `make`. Where one column was found there may be another delimiter under which rows would mostly have
-    /// several fields.
-    Answered(u64, Option<u8>),
+    /// for `sniff` and `make`. Beside it stands what was noticed in the file, of `batch` in the first one; none where no file
+    /// was looked at.
+    Answered(u64, Option<Noticed>),
     /// The words were refused.
     Refused(WordFault),
     /// The file that was opened last could not be opened or read.
@@ -68,10 +68,11 @@ impl Ending {
             Outcome::Sniffed(sniffed)
             | Outcome::Explained(sniffed, _)
             | Outcome::Batch(sniffed, ..) => {
-                Ok(Ending::Answered(outcome.faults()?, sniffed.other_delim))
+                Ok(Ending::Answered(outcome.faults()?, Some(sniffed.noticed)))
             }
             Outcome::Loaded(loaded) | Outcome::Summary(loaded, _) => {
-                Ok(Ending::Answered(outcome.faults()?, loaded.sniffed.other_delim))
+                let noticed = loaded.sniffed.noticed;
+                Ok(Ending::Answered(outcome.faults()?, Some(noticed)))
             }
             Outcome::Mismatch(_) | Outcome::FirstError(..) => unreachable!(),
         }

@@ -22,7 +22,7 @@ impl<'a, R, G> Loader<'a, R, G> {
         let (_table, file) = batch.into_only();
         let text = write_rejects(self.alloc, &file.book)?;
         Ok(Reply::new(
-            Ending::Answered(faults, sniffed.other_delim),
+            Ending::Answered(faults, Some(sniffed.noticed)),
             ReplyText::Whole(text),
         ))
     }

@@ -10,7 +10,7 @@ use Rattle.value_types.specs.ValueText.{truth_text}
 use Rattle.dialect_rank.specs.declared.scored.Scored.{Scored}
 use Rattle.csv_sniffer.specs.ExplanationView.{ExplanationView}
 use Rattle.csv_sniffer.specs.declared.explaining.hints.Hint.{Hint}
-use Rattle.csv_sniffer.specs.declared.explaining.hints.Hint.TheVariants.{Delim, Comment, Varchar, NullText}
+use Rattle.csv_sniffer.specs.declared.explaining.hints.Hint.TheVariants.{Delim, Comment, Skip, Quote, Varchar, NullText}
 use Rattle.csv_sniffer.specs.declared.explaining.whys.Why.{Why}
 use Rattle.csv_sniffer.specs.declared.found.Sniffed.{Sniffed}
 
@@ -64,6 +64,8 @@ varchar_word name = codes "column_types=" ++ shown name ++ codes ":VARCHAR"
 abbrev pub hint_text : Hint → List ℕ
 hint_text (Delim delim) = codes "delim=" ++ shown_option (Some delim)
 hint_text Comment = codes "comment=#"
+hint_text Skip = codes "skip=1"
+hint_text Quote = codes "quote="
 hint_text (Varchar name) = varchar_word name
 hint_text (NullText text) = codes "nulls=," ++ shown text
 

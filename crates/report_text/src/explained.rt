@@ -171,6 +171,8 @@ fn push_hint_text(into: &mut Draft, hint: &Hint) -> Result<(), NoMemory>
             push_shown_option(into, Some(*delim))
         }
         Hint::Comment => push_plain(into, b"comment=#"),
+        Hint::Skip => push_plain(into, b"skip=1"),
+        Hint::Quote => push_plain(into, b"quote="),
         Hint::Varchar(name) => push_varchar_word(into, name.as_slice()),
         Hint::NullText(text) => {
             push_plain(into, b"nulls=,")?;

@@ -100,6 +100,7 @@ fn explain_sample<'a>(
 {
     let (sample, whole) = (file.sample, file.whole);
     let scored = scored_candidates(alloc, options, sample, whole)?;
+    let candidates = in_rank_order(alloc, &scored)?;
     let rows = sampled_under(alloc, sniffed.dialect, sample, whole, options.sample_size)?;
     let file = FileRows {
         alloc,
@@ -108,11 +109,13 @@ fn explain_sample<'a>(
         front: file.front,
     };
     let columns = column_samples(sniffed, &file, usize::from(sniffed.header))?;
+    let whys = whys(alloc, &columns)?;
+    let hints = hints(alloc, options, sniffed, sample, &columns)?;
     Ok(Explanation {
-        candidates: in_rank_order(alloc, &scored)?,
+        candidates,
         fixes_types: fixes_types(options, sniffed),
-        whys: whys(alloc, &columns)?,
-        hints: hints(alloc, options, sniffed, &file.rows, &columns)?,
+        whys,
+        hints,
     })
 }
 

@@ -7,7 +7,7 @@ ghost use Rattle.value_types.specs.Spelled.{IsSpelledCell};
 use super::images::{Made, is_made};
 use byte_classes::Dialect;
 use column_store::Table;
-use csv_sniffer::{Newline, Sniffed};
+use csv_sniffer::{Newline, Noticed, Sniffed};
 use csv_source::NoMemory;
 use db_writer::{Contents, write_database};
 use std::alloc::Global;
@@ -34,7 +34,11 @@ fn found(alloc: Global) -> Result<Sniffed, NoMemory>
         names,
         types,
         data_start: 0,
-        other_delim: None,
+        noticed: Noticed {
+            other_delim: None,
+            comment_lines: 0,
+            idle_quote: None,
+        },
     })
 }
 

@@ -56,7 +56,10 @@ fn is_at(place: &Place, reject: &Reject) -> bool {
 fn is_wanted(wanted: &End, ending: &Ending) -> bool {
     match ending {
         Ending::Answered(faults, None) => matches!(wanted, End::Answered(n) if n == faults),
-        Ending::Answered(_, Some(delim)) => matches!(wanted, End::Hinted(byte) if byte == delim),
+        Ending::Answered(faults, Some(noticed)) => match noticed.other_delim {
+            None => matches!(wanted, End::Answered(n) if n == faults),
+            Some(delim) => matches!(wanted, End::Hinted(byte) if *byte == delim),
+        },
         Ending::Refused(fault) => {
             matches!(wanted, End::Refused(rule, at) if fault.rule == *rule && fault.index == *at)
         }
