@@ -14,8 +14,9 @@ use csv_source::NoMemory;
 use quote_automaton::begins_comment;
 use row_fields::comment_end;
 
-/// After so many rows of a span that one look didn't find none is tried so any more.
-const MOST_MISSES: u32 = 64;
+/// From so many rows on that one look didn't find, and where they are more than half of those that are kept, none of the span
+/// is tried so any more.
+const MOST_MISSES: usize = 64;
 
 impl Gathering {
     /// Appends the row that begins at a place where one look finds it, and answers its end.
@@ -34,18 +35,21 @@ impl Gathering {
         requires no_comment { begins_comment context.now.dialect (drop at bytes.now) ≡ false }
         ensures ok { IfOk result (λ row. IfSome row (λ end. (end ≡ at + row_len context.now.dialect bytes.now at) × (end ≤ length bytes.now) × (self.new.book ≡ self.old.book))) }
         ensures value { IfOk result (λ row. IfSome row (λ end. Gathers (verdict_on context.now bytes.now base (lines_before self.old bytes.now at) at) bytes.now at self.old self.new)) }
-        ensures none { IfOk result (λ row. row ≡ None → self.new ≡ record self.old { misses = self.new.misses }) }
+        ensures none { IfOk result (λ row. row ≡ None → self.new ≡ self.old) }
     {
-        if self.misses >= MOST_MISSES {
+        if self.is_slow {
             return Ok(None);
         }
-        match push_fast(&mut self.chunk, context, bytes, at, known)? {
-            Some(end) => Ok(Some(end)),
-            None => {
-                self.misses += 1;
-                Ok(None)
-            }
-        }
+        push_fast(&mut self.chunk, context, bytes, at, known)
+    }
+
+    /// Counts a row that one look didn't find, if it isn't blank.
+    #[inline(never)]
+    fn count_miss(&mut self, has_bytes: bool)
+        ensures { self.new ≡ record self.old { misses = self.new.misses; is_slow = self.new.is_slow } }
+    {
+        self.misses = self.misses.saturating_add(has_bytes as usize);
+        self.is_slow = self.misses >= MOST_MISSES && self.misses > self.chunk.rows() / 2;
     }
 
     /// Reads the fields of the row that begins at a place, keeps it or its faults, and answers its end.
@@ -100,7 +104,11 @@ impl Gathering {
         }
         match self.take_fast(context, bytes, base, at, known)? {
             Some(end) => Ok(end),
-            None => self.take_fields(context, bytes, base, at, known),
+            None => {
+                let end = self.take_fields(context, bytes, base, at, known)?;
+                self.count_miss(end > at);
+                Ok(end)
+            }
         }
     }
 }
