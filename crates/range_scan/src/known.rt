@@ -9,11 +9,16 @@ use crate::context::Context;
 use crate::fast_rows::FastRows;
 use crate::places::text_end;
 
+/// Behind bytes that aren't UTF-8 it is looked so far at once: more of them may follow.
+const NEAR: usize = 1024;
+
 /// What one look at a span and its context tells of each row.
 #[derive(Clone, Copy)]
 pub struct Known {
     /// The place up to which the bytes are UTF-8.
     pub text_to: usize,
+    /// Behind this place it is looked again whether they are: nowhere, where nobody has to know.
+    pub again: usize,
     /// As what rows are tried by one look.
     pub rows: FastRows,
 }
@@ -30,14 +35,36 @@ impl Known {
         if rows.is_ascii() {
             return Known {
                 text_to: from,
+                again: usize::MAX,
                 rows,
             };
         }
+        let text_to = text_end(bytes, from, to);
         Known {
-            text_to: text_end(bytes, from, to),
+            text_to,
+            again: text_to,
             rows,
         }
     }
+
+    /// What is known once the rows before a place were read: behind bytes that aren't UTF-8 it is looked again.
+    #[inline(always)]
+    pub fn behind(self, bytes: &[u8], at: usize, to: usize) -> Known
+        requires within { (at ≤ to) × (to ≤ length bytes.now) }
+        ensures known { (context : Context) → Knows context bytes.now at self → Knows context bytes.now at result }
+        ensures within { self.text_to ≤ to → result.text_to ≤ to }
+    {
+        if at <= self.again {
+            return self;
+        }
+        let text_to = text_end(bytes, at, at + (to - at).min(NEAR));
+        Known {
+            text_to,
+            again: text_to,
+            rows: self.rows,
+        }
+    }
+
     /// Whether a row that one look found, and that ends at a place, is known to be UTF-8.
     #[inline(always)]
     pub fn is_text(self, end: usize) -> bool
