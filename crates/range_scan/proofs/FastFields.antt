@@ -11,7 +11,6 @@ use Rattle.quote_automaton.specs.declared.state.State.TheVariants.{RowStart, Fie
 use Rattle.quote_automaton.specs.Automaton.{state_after}
 use Rattle.quote_automaton.specs.Rows.{begins_comment, row_at, row_end}
 use Rattle.row_fields.specs.declared.field.FieldEnd.{FieldEnd}
-use Rattle.row_fields.specs.declared.span.Span.{Span}
 use Rattle.row_fields.specs.Fields.{Field, raw_fields, fields_from, fields, flaw}
 use Rattle.row_fields.specs.Reading.{HasRead, field_of, rest_at}
 use Rattle.row_fields.specs.Split.{field_in, row_from}
@@ -26,7 +25,7 @@ use Rattle.column_store.specs.RowsOfColumns.{HasNoTexts}
 use Rattle.reject_book.specs.declared.reject.Schema.{Schema}
 use Rattle.reject_book.specs.Casting.{cell_at}
 use Rattle.range_scan.specs.declared.context.Context.{Context}
-use Rattle.range_scan.specs.FastRows.{cells_in, IsFastRow, IsField}
+use Rattle.range_scan.specs.FastRows.{cells_in, HasFields, IsFastRow, IsField}
 
 -- ---- the cells of fields
 
@@ -44,15 +43,6 @@ no_cells schema [] = refl
 no_cells schema (ty ∷ tys) = refl
 
 -- ---- the row so far
-
--- the bytes up to a place are fields with these cells
-pub record HasFields (context : Context) (bytes : List ℕ) (from : ℕ) (cells : List Datum) : Type 0 where
-  pub spans : List Span
-  pub texts : List ℕ
-  pub read : HasRead context.dialect bytes from spans texts
-  pub count : length spans ≡ length cells
-  pub are : cells_in context.schema context.schema.types (map (field_in bytes texts) spans) ≡ map Some cells
-  pub ascii : HasNoTexts context.schema.types → (k : ℕ) → k < from → get_or bytes k 0 < 128
 
 pub has_no_field : (context : Context) (bytes : List ℕ) → HasFields context bytes 0 []
 has_no_field context bytes = record {

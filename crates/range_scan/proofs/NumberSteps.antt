@@ -28,6 +28,6 @@ number_pushed context holds bytes from old new front is lt pushed = record {
   high = is.at.high;
   cell = typed (Int front.number);
   pushed = pushed;
-  is = plain_field Bigint bytes from front.end is.at context holds.plain (length old.unfinished) (takes_number context holds (length old.unfinished) lt) (typed (Int front.number)) is.value;
+  is = plain_field Bigint bytes from front.end is.at context holds.fields.plain (length old.unfinished) (takes_number context holds (length old.unfinished) lt) (typed (Int front.number)) is.value;
   ascii = λ other. plain_is_ascii Bigint bytes from front.end is.at;
 }

@@ -1,6 +1,6 @@
 -- The field of a plain value, and an empty one.
 use Rattle.std.proofs.Common.{◌≡◌, ℕ, zero, suc, ◌+◌, ◌-◌, ◌<◌, ◌≤◌, Bool, true, false, ◌&&◌, cond, List, [], ◌∷◌, length, get_or, refl, sym, ◌∙◌, ap, subst, arith}
-use Rattle.std.specs.Prelude.{Option, Some, None, slice_get, slice_range}
+use Rattle.std.specs.Prelude.{◌||◌, not, Option, Some, None, slice_get, slice_range}
 use Rattle.std.specs.List.{list_all, list_any}
 use Rattle.std.specs.Option.{is_some}
 use Rattle.std.specs.Str.{bytes_eq}
@@ -20,7 +20,7 @@ use Rattle.value_types.specs.Null.{is_null}
 use Rattle.value_types.specs.OfType.{typed_cell}
 use Rattle.value_types.specs.Plain.{is_plain, IsPlainAt}
 use Rattle.reject_book.specs.declared.reject.Schema.{Schema}
-use Rattle.reject_book.specs.Casting.{cell_at, null_texts}
+use Rattle.reject_book.specs.Casting.{cell_at, cell_of, null_texts}
 use Rattle.range_scan.specs.declared.context.Context.{Context}
 use Rattle.range_scan.specs.FastRows.{begins_plain, is_plain_in, HoldsPlain, IsField}
 
@@ -37,9 +37,9 @@ none_null p value (text ∷ texts) some num other =
     let parts = or_parts (begins_plain p text) (list_any (begins_plain p) texts) other in
     or_from (bytes_eq value text) (list_any (bytes_eq value) texts) (not_null p value text some num parts.0) (none_null p value texts some num parts.1)
 
-plain_cell : (schema : Schema) (p : ℕ → Bool) (ty : ColumnType) (at : ℕ) (value : List ℕ) → list_any (begins_plain p) (null_texts schema) ≡ false → 0 < length value → list_all p value ≡ true →
-    cell_at schema ty (Some (record { at = at; quoted = false; value = value })) ≡ typed_cell value ty
-plain_cell schema p ty at value other some num = λ i. cond (none_null p value (null_texts schema) some num other i && true) (Some null) (typed_cell value ty)
+pub plain_cell : (schema : Schema) (p : ℕ → Bool) (ty : ColumnType) (quoted : Bool) (value : List ℕ) → list_any (begins_plain p) (null_texts schema) ≡ false → 0 < length value → list_all p value ≡ true →
+    cell_of schema ty quoted value ≡ typed_cell value ty
+plain_cell schema p ty quoted value other some num = λ i. cond (none_null p value (null_texts schema) some num other i && (not quoted || schema.allow_quoted_nulls)) (Some null) (typed_cell value ty)
 
 plain_byte_is_ascii : (ty : ColumnType) (b : ℕ) → is_plain ty b ≡ true → b < 128
 plain_byte_is_ascii types.Boolean b is = grind (arith, is)
@@ -55,7 +55,7 @@ plain_to_all [] k ty b is plain = absurd (none-some ty is)
 plain_to_all (t ∷ tys) zero ty b is plain = or_left (is_plain t b) (is_plain_in tys b) (ap (λ u. is_plain u b) (same_Some t ty is) ∙ plain)
 plain_to_all (t ∷ tys) (suc k) ty b is plain = or_right (is_plain t b) (is_plain_in tys b) (plain_to_all tys k ty b is plain)
 
-all_plain : (tys : List ColumnType) (k : ℕ) (ty : ColumnType) (xs : List ℕ) → slice_get tys k ≡ Some ty → list_all (is_plain ty) xs ≡ true → list_all (is_plain_in tys) xs ≡ true
+pub all_plain : (tys : List ColumnType) (k : ℕ) (ty : ColumnType) (xs : List ℕ) → slice_get tys k ≡ Some ty → list_all (is_plain ty) xs ≡ true → list_all (is_plain_in tys) xs ≡ true
 all_plain tys k ty [] is all = refl
 all_plain tys k ty (x ∷ xs) is all = let parts = and_parts _ _ all in and_from _ _ (plain_to_all tys k ty x is parts.0) (all_plain tys k ty xs is parts.1)
 
@@ -89,7 +89,7 @@ module _ (ty : ColumnType) (bytes : List ℕ) (from end : ℕ) (at : IsPlainAt t
       record {
         well = record { ending = ending.Bare; sound = refl; reads = reads.1 };
         casts = ap (λ f. cell_at context.schema ty (Some f)) (bare_field_of context.dialect from raw reads.0)
-            ∙ plain_cell context.schema p ty from raw holds.null (omega (arith, at.low, length-between bytes from end high)) all ∙ value;
+            ∙ plain_cell context.schema p ty false raw holds.null (omega (arith, at.low, length-between bytes from end high)) all ∙ value;
       }
 
 -- ---- a field of no bytes

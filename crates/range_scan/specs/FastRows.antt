@@ -4,10 +4,11 @@ use Rattle.std.specs.List.{list_any}
 use Rattle.byte_classes.specs.Class.{class_of}
 use Rattle.byte_classes.specs.Special.{is_special}
 use Rattle.quote_automaton.specs.RowEnd.{row_len}
+use Rattle.row_fields.specs.declared.span.Span.{Span}
 use Rattle.row_fields.specs.Fields.{Field, fields, flaw}
 use Rattle.row_fields.specs.Plain.{LeavesPlain}
-use Rattle.row_fields.specs.Reading.{EndsWell, field_of}
-use Rattle.row_fields.specs.Split.{row_from}
+use Rattle.row_fields.specs.Reading.{EndsWell, HasRead, field_of}
+use Rattle.row_fields.specs.Split.{field_in, row_from}
 use Rattle.value_types.specs.declared.types.ColumnType.{ColumnType}
 use Rattle.value_types.specs.declared.types.ColumnType.TheVariants.{Bigint, Varchar}
 use Rattle.value_types.specs.declared.fronts.number.FrontNumber.{FrontNumber}
@@ -43,15 +44,15 @@ pub record HoldsPlain (context : Context) : Type 0 where
   pub leaves : LeavesPlain (is_plain_in context.schema.types) context.dialect
   pub null : list_any (begins_plain (is_plain_in context.schema.types)) (null_texts context.schema) ≡ false
 
--- and all columns are BIGINT
-pub record HoldsNumbers (context : Context) : Type 0 where
-  pub plain : HoldsPlain context
-  pub types : All (λ ty. ty ≡ Bigint) context.schema.types
-
 -- and no quote stands in a text that stands for null
 pub record HoldsFields (context : Context) : Type 0 where
   pub plain : HoldsPlain context
   pub quote : IfSome context.dialect.quote (λ q. list_any (has_byte q) (null_texts context.schema) ≡ false)
+
+-- and all columns are BIGINT
+pub record HoldsNumbers (context : Context) : Type 0 where
+  pub fields : HoldsFields context
+  pub types : All (λ ty. ty ≡ Bigint) context.schema.types
 
 -- as what the rows of a file may be tried
 abbrev pub IsKindOf : Context → FastRows → Type 0
@@ -92,6 +93,15 @@ abbrev pub cells_in : Schema → List ColumnType → List Field → List (Option
 cells_in schema [] fs = []
 cells_in schema (ty ∷ tys) [] = []
 cells_in schema (ty ∷ tys) (f ∷ fs) = cell_at schema ty (Some f) ∷ cells_in schema tys fs
+
+-- the bytes up to a place are fields with these cells
+pub record HasFields (context : Context) (bytes : List ℕ) (from : ℕ) (cells : List Datum) : Type 0 where
+  pub spans : List Span
+  pub texts : List ℕ
+  pub read : HasRead context.dialect bytes from spans texts
+  pub count : length spans ≡ length cells
+  pub are : cells_in context.schema context.schema.types (map (field_in bytes texts) spans) ≡ map Some cells
+  pub ascii : HasNoTexts context.schema.types → (k : ℕ) → k < from → slice_index bytes k < 128
 
 -- the row at the front of the bytes ends at a place, and its fields have these cells
 pub record IsFastRow (context : Context) (bytes : List ℕ) (cells : List Datum) (end : ℕ) : Type 0 where

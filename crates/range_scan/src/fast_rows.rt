@@ -3,6 +3,7 @@
 //! of this kind, nothing of it is kept, and it is read as any other row, field by field and then value by value.
 mod fields;
 mod kinds;
+mod number_fields;
 mod numbers;
 mod pushing;
 mod texts;

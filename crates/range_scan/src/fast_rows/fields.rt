@@ -14,7 +14,7 @@ use value_types::{Cell, ColumnType};
 
 /// Appends null for a field of no bytes, where an empty text stands for null. That the field ends here the caller sees.
 #[inline(always)]
-fn push_empty(
+pub fn push_empty(
     chunk: &mut Chunk,
     context: &Context,
     bytes: &[u8],
@@ -61,7 +61,7 @@ fn push_field(
 
 /// Where a row ends whose last field ends at a place: there, if a line end stands there and the field is the last one.
 #[inline(always)]
-fn row_end(bytes: &[u8], end: usize, is_last: bool) -> Option<usize>
+pub fn row_end(bytes: &[u8], end: usize, is_last: bool) -> Option<usize>
     requires within { end < length bytes.now }
     ensures { IfSome result (λ len. (len ≡ end) × (is_last ≡ true) × (is_line_end_byte (slice_index bytes.now end) ≡ true)) }
 {

@@ -15,7 +15,7 @@ use value_types::{ColumnType, Names, Types, is_plain};
 pub enum FastRows {
     /// Not at all.
     Never,
-    /// As one of plain numbers alone.
+    /// As one of numbers alone, most of them plain, some between quotes or empty: such a row is ASCII.
     Numbers,
     /// As one of plain values and empty fields: such a row is ASCII.
     Values,
@@ -151,15 +151,12 @@ impl FastRows {
     pub fn of(context: &Context) -> FastRows
         ensures { IsKindOf context.now result }
     {
-        if !holds_plain(context) {
+        if !holds_plain(context) || !holds_quotes(context) {
             return FastRows::Never;
         }
         let types = &context.schema.types;
         if all_bigint(types) {
             return FastRows::Numbers;
-        }
-        if !holds_quotes(context) {
-            return FastRows::Never;
         }
         if has_no_texts(types) {
             FastRows::Values

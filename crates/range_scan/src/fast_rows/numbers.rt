@@ -1,13 +1,14 @@
-//! A row of plain numbers alone is found and cast by one look at its bytes.
+//! A row of plain numbers is found and cast by one look at its bytes.
 ghost use Rattle.std.specs.Prelude.{◌≡◌, ◌≤◌, [], false, true, length, IfOk, IfSome, slice_index};
 ghost use Rattle.byte_classes.specs.Fault.{is_line_end_byte};
 ghost use Rattle.quote_automaton.specs.Rows.{begins_comment};
 ghost use Rattle.range_scan.specs.FastRows.{HoldsNumbers, IsFastRow, IsNumberAt, IsUnder};
 
+use super::number_fields::{number_at, push_rest};
 use crate::context::Context;
 use column_store::Chunk;
 use csv_source::NoMemory;
-use value_types::{FrontNumber, bigint_front};
+use value_types::FrontNumber;
 
 /// The number that begins at a place, where this byte follows it.
 #[inline(always)]
@@ -16,7 +17,7 @@ fn number_before(bytes: &[u8], from: usize, delim: u8) -> Option<FrontNumber>
     ensures value { IfSome result (IsNumberAt bytes.now from) }
     ensures ends { IfSome result (λ front. slice_index bytes.now front.end ≡ delim) }
 {
-    let front = bigint_front(bytes, from)?;
+    let front = number_at(bytes, from)?;
     if bytes[front.end] == delim {
         Some(front)
     } else {
@@ -31,7 +32,7 @@ fn last_number(bytes: &[u8], from: usize) -> Option<FrontNumber>
     ensures value { IfSome result (IsNumberAt bytes.now from) }
     ensures ends { IfSome result (λ front. is_line_end_byte (slice_index bytes.now front.end) ≡ true) }
 {
-    let front = bigint_front(bytes, from)?;
+    let front = number_at(bytes, from)?;
     let byte = bytes[front.end];
     if byte == b'\n' || byte == b'\r' {
         Some(front)
@@ -40,8 +41,8 @@ fn last_number(bytes: &[u8], from: usize) -> Option<FrontNumber>
     }
 }
 
-/// Appends the numbers of the row at the front of the bytes as they are found, and answers where it ends; none where it
-/// isn't one of plain numbers up to a line end. The row stays under way.
+/// Appends the numbers of the row at the front of the bytes as they are found, and from the first field on that is no plain
+/// number what `push_rest` finds, and answers where it ends, as that does. The row stays under way.
 #[inline(always)]
 pub fn push_numbers(
     chunk: &mut Chunk,
@@ -58,15 +59,19 @@ pub fn push_numbers(
 {
     let delim = context.dialect.delim();
     let mut from = 0;
-    for _column in 1..chunk.columns() {
+    for column in 1..chunk.columns() {
         let Some(front) = number_before(bytes, from, delim) else {
-            return Ok(None);
+            // Not answered as it comes: then this loop's answer, too, would go through memory.
+            let row = push_rest(chunk, context, bytes, column - 1, from)?;
+            return Ok(row);
         };
         chunk.push_bigint(front.number)?;
         from = front.end + 1;
     }
     let Some(front) = last_number(bytes, from) else {
-        return Ok(None);
+        let last = chunk.columns() - 1;
+        let row = push_rest(chunk, context, bytes, last, from)?;
+        return Ok(row);
     };
     chunk.push_bigint(front.number)?;
     Ok(Some(front.end))

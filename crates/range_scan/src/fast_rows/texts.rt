@@ -129,7 +129,7 @@ fn push_quoted(
 
 /// Whether a byte is the quote.
 #[inline(always)]
-fn is_quote(dialect: &Dialect, byte: u8) -> bool
+pub fn is_quote(dialect: &Dialect, byte: u8) -> bool
     ensures yes { result ≡ true → dialect.now.quote ≡ Some byte }
     ensures no { result ≡ false → is_byte dialect.now.quote byte ≡ false }
 {

@@ -3,8 +3,8 @@ use Rattle.std.specs.Prelude.{IfSome, slice_get}
 use Rattle.value_types.specs.declared.types.ColumnType.{ColumnType}
 use Rattle.value_types.specs.Datum.{Datum}
 use Rattle.column_store.specs.ChunkView.{ChunkView}
-use Rattle.range_scan.specs.FastRows.{IsFastRow, IsFieldPushed}
-use Rattle.range_scan.proofs.FastFields.{HasFields, has_no_field}
+use Rattle.range_scan.specs.FastRows.{HasFields, IsFastRow, IsFieldPushed}
+use Rattle.range_scan.proofs.FastFields.{has_no_field}
 use Rattle.range_scan.proofs.FastSteps.{one_longer, on_some, step_last, step_more, still_under}
 use Rattle.range_scan.proofs.fast_rows.fields.push_fields.Goals as goal
 

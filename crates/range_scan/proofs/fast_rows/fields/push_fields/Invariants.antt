@@ -1,6 +1,5 @@
 use Rattle.std.proofs.Common.{◌≡◌, ◌≤◌, length}
-use Rattle.range_scan.specs.FastRows.{IsUnder}
-use Rattle.range_scan.proofs.FastFields.{HasFields}
+use Rattle.range_scan.specs.FastRows.{HasFields, IsUnder}
 use Rattle.range_scan.proofs.fast_rows.fields.push_fields.Given as goal
 
 -- the cells of the columns so far are under way
