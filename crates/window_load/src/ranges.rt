@@ -1,13 +1,11 @@
 //! The ranges of the data, one after another in a window.
-ghost use Rattle.std.specs.Prelude.{◌≡◌, ◌+◌, ◌<◌, ◌≤◌, ◌^◌, true, length, IfOk, Err};
+ghost use Rattle.std.specs.Prelude.{◌≡◌, ◌+◌, ◌<◌, ◌≤◌, ◌^◌, true, length, IfOk};
 ghost use Rattle.std.specs.Io.KnownBytes.{IsAtEnd};
-ghost use Rattle.csv_source.specs.Causes.{Rose};
 ghost use Rattle.reject_book.specs.declared.book.Keep.TheVariants.{First as first_of};
 ghost use Rattle.load_options.specs.declared.limits.TheConstants.{MAX_LINE_SIZE, RANGE_SIZE};
 ghost use Rattle.window_load.specs.Ranges.{span_in, range_reach};
 ghost use Rattle.window_load.specs.Reading.{IsReadInWindows};
-ghost use Rattle.window_load.specs.Window.{reach, ReachesOn};
-ghost use Rattle.window_load.specs.declared.stop.LoadStop.TheVariants as stops;
+ghost use Rattle.window_load.specs.Reads.{Reads, stop_in};
 
 use crate::adding::add_range;
 use crate::course::Course;
@@ -63,12 +61,8 @@ pub fn read_ranges<S: Source, G: Gate>(
     requires keep { course.stop ≡ true → scanner.now.context.now.keep ≡ first_of 1 }
     requires at_end { window.old.ended ≡ true → IsAtEnd (S.left source.old) }
     ensures ok { IfOk result (λ read. IsReadInWindows scanner.now.context.now course (S.left source.old) (S.left source.new) window.old window.new read) }
-    ensures too_large { result ≡ Err stops.TooLarge → reach window.new ≡ window.new.most + 1 }
-    ensures moved { ReachesOn (S.left source.old) (S.left source.new) window.old window.new }
-    ensures at_end { window.new.ended ≡ true → IsAtEnd (S.left source.new) }
-    ensures held { S.held source.new ≡ S.held source.old }
-    ensures count { S.faults source.old ≤ S.faults source.new }
-    ensures failed { result ≡ Err stops.Failed → Rose (S.faults source.old) (S.faults source.new) }
+    ensures reads { Reads (S.left source.old) (S.left source.new) (S.held source.old) (S.held source.new) (S.faults source.old) (S.faults source.new)
+        window.old window.new (stop_in result) }
 {
     let (alloc, context) = (scanner.alloc, scanner.context);
     let most = context.schema.max_line_size;

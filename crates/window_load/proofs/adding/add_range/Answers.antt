@@ -15,6 +15,6 @@ returns-clause-value g c = λ told.
     elim c.else-not-sure.branch as (λ _. (c.args.sure ≡ true) ⊎ (begins_behind d kept span c.args.joined.now.end ≡ true)) [
       | else-not-sure-via-then-not-sure+else-not-has_row_behind w ↦ (let end : w.end.result ≡ state_after d c.args.joined.now.end (slice_range kept span.from span.to) =
           w.end.ensures ∙ ap (λ (p : Scanned). p.end) c.in_ok-part.ensures ∙ ap (λ bs. state_after d c.args.joined.now.end (slice_range bs span.from span.to)) c.bytes.ensures in
-          inr (sym (ap (λ e. is_some (first_row_start d e kept span.to (length kept))) end) ∙ sym w.has_row_behind.ensures ∙ w.if-not-has_row_behind.false))
+          inr (ap (λ e. is_some (first_row_start d e kept span.to (length kept))) (sym end) ∙ sym w.has_row_behind.ensures ∙ w.if-not-has_row_behind.false))
       | else-not-sure-via-else-not-sure w ↦ inl w.if-not-sure.false
     ]
