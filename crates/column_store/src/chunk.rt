@@ -139,7 +139,8 @@ impl Chunk {
     pub fn drop_unfinished_row(&mut self)
         ensures { self.new ≡ record self.old { unfinished = [] } }
     {
-        self.truncate(self.rows);
+        columns::cut_first(&mut self.columns, self.begun, self.rows);
+        self.begun = 0;
     }
 
     /// Makes the row under way the last one.

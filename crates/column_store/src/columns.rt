@@ -1,5 +1,7 @@
 // All columns of a chunk at once.
-ghost use Rattle.std.specs.Prelude.{◌≡◌, ◌≤◌, ◌+◌, ◌++◌, ℕ, [], length, map, All, IfOk, OnErr, OnOk};
+ghost use Rattle.std.specs.Prelude.{◌≡◌, ◌≤◌, ◌<◌, ◌+◌, ◌++◌, ℕ, [], length, map, All, IfOk, OnErr, OnOk};
+ghost use Rattle.std.specs.List.{slice_index_or};
+ghost use Rattle.column_store.specs.declared.column.Column.{Column};
 ghost use Rattle.column_store.specs.ColumnCells.{cells_of, type_of};
 ghost use Rattle.column_store.specs.ColumnChanges.{EachColumn, IsAppended, IsCut, IsReserved, KeepsCells, KeepsFront};
 
@@ -25,6 +27,17 @@ pub(crate) fn cut(columns: &mut [Column], rows: usize)
     ensures { EachColumn (λ _. IsCut rows) columns.old columns.new }
 {
     for place in 0..columns.len() {
+        columns[place].truncate(rows);
+    }
+}
+
+/// Keeps the first cells of each column alone, where only the first columns have more.
+pub(crate) fn cut_first(columns: &mut [Column], longer: usize, rows: usize)
+    requires within { longer ≤ length columns.old }
+    requires short { (number : ℕ) (other : Column) → longer ≤ number → number < length columns.old → length (cells_of (slice_index_or columns.old number other)) ≤ rows }
+    ensures { EachColumn (λ _. IsCut rows) columns.old columns.new }
+{
+    for place in 0..longer {
         columns[place].truncate(rows);
     }
 }
