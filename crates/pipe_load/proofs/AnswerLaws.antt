@@ -1,13 +1,19 @@
 -- What is loaded of the data behind a place of the head.
 use Rattle.std.proofs.Common.{◌≡◌, ℕ, ◌+◌, ◌-◌, ◌≤◌, Bool, List, ◌++◌, length, drop, Option, sym, ap, ◌∙◌, subst, arith, length-append, length-drop}
+use Rattle.std.specs.Prelude.{Some, Result, Err}
 use Rattle.std.specs.Io.KnownBytes.{Consumes}
 use Rattle.std.proofs.lemmas.List.{drop-append-le}
 use Rattle.range_scan.specs.declared.context.Context.{Context}
 use Rattle.window_load.specs.declared.data_read.DataRead.{DataRead}
 use Rattle.window_load.specs.declared.data_read.WindowRead.{WindowRead}
+use Rattle.window_load.specs.declared.stop.LoadStop.{LoadStop}
 use Rattle.window_load.specs.DataRead.{IsDataRead, IsWindowRead, ComesWhole, ComesOver}
 use Rattle.window_load.specs.Window.{WindowView, reach, behind_front}
 use Rattle.pipe_load.specs.Loading.{IsAllRead}
+
+-- a result that is told twice
+pub one_stop : {A : Type 0} (result : Result A LoadStop) (stop other : LoadStop) → result ≡ Err stop → result ≡ Err other → Some stop ≡ Some other
+one_stop result stop other is told = cc
 
 module _ (head w : WindowView) (start : ℕ) (before after : Option (List ℕ)) (begins : head.base ≡ 0) (within : start ≤ length head.kept) (dropped : w ≡ behind_front start head) where
   reaches : (came : List ℕ) → reach w + length came ≡ length (head.kept ++ came)

@@ -14,9 +14,6 @@ use Rattle.pipe_load.specs.declared.window.Window.{Window}
 use Rattle.pipe_load.specs.Layout.{IsLayout, stride, lead, want, window_start, window_of, windows_of, turned}
 use Rattle.pipe_load.specs.Reading.{HasCut, CutsOn}
 
-zero_times : (s : ℕ) → 0 * s ≡ 0
-zero_times s = omega arith
-
 pub some_stride : (l : Layout) → IsLayout l → 0 < stride l
 some_stride l layout = positive l.ranges l.range_size layout.ranges layout.some
   where
@@ -55,9 +52,6 @@ module _ (s reach : ℕ) (some : 0 < s) where
   pub place_next : (k : ℕ) → place_start k + (min k 1 + s - 1) ≡ place_start (k + 1)
   place_next zero = omega (arith, some)
   place_next (suc k) = let least = at_least (suc k) (omega arith) in omega (arith, one_more (suc k), least, some)
-
-  pub place_before : (k n : ℕ) → k < n → place_start k + place_len k ≤ n * s + reach
-  place_before k n lt = omega (arith, place_ends k, one_more k, below k n lt)
 
 module _ (l : Layout) (layout : IsLayout l) where
   abbrev s : ℕ

@@ -1,12 +1,14 @@
 -- Windows are put in the order of their numbers.
 use Rattle.std.proofs.Common.{◌≡◌, ℕ, suc, ◌+◌, ◌-◌, ◌<◌, ◌≤◌, min, true, List, [], ◌∷◌, ◌++◌, length, take, get_or, refl, sym, ap, ◌∙◌, subst, arith, length-append, append_assoc, lt_of_not-le}
-use Rattle.std.specs.Prelude.{Option}
+use Rattle.std.specs.Prelude.{Option, Some, None, Result, Err}
 use Rattle.std.specs.Io.KnownBytes.{IsAtEnd}
 use Rattle.std.proofs.lemmas.List.{get_or_append_left, get_or_at}
 use mathlib.Core.Logic.{dite}
 use native.Mathlib.Decide.{dec_le}
-use Rattle.window_load.specs.Window.{WindowView, behind_front, IsFilled, ReachesOn}
-use Rattle.window_load.proofs.ReachedOn.{reaches_twice, drops_and_reaches}
+use Rattle.window_load.specs.declared.stop.LoadStop.{LoadStop}
+use Rattle.window_load.specs.Reads.{Reads, stop_in}
+use Rattle.window_load.specs.Window.{WindowView, behind_front, IsFilled}
+use Rattle.window_load.proofs.ReadSteps.{drops_on}
 use Rattle.pipe_load.specs.declared.layout.Layout.{Layout}
 use Rattle.pipe_load.specs.declared.reader.Reader.{Reader}
 use Rattle.pipe_load.specs.declared.window.Window.{Window}
@@ -37,14 +39,20 @@ pub kept_numbered : (put waiting more : List Window) (w : Window) → more ≡ w
 kept_numbered put waiting more w is numbered next =
     subst AreNumbered (append_assoc put waiting (w ∷ []) ∙ ap (λ ws. put ++ ws) (sym is)) (one_more_number (put ++ waiting) w numbered next)
 
+-- a window is cut: what is in hand reaches as far
+pub cut_reads : {Held : Type 0} {before between : Option (List ℕ)} {held_before held_between : Held} {faults_before faults_between : ℕ} {old : WindowView} {held mid : Reader} {w : Window} → IsCut held mid w →
+    Reads before between held_before held_between faults_before faults_between old held.window None → Reads before between held_before held_between faults_before faults_between old mid.window None
+cut_reads {held = held} {mid = mid} cut r = let few : passed held ≤ length held.window.kept = omega arith in drops_on r (passed held) mid.window cut.behind few
+
+-- a result that hands on why a reading ended
+pub reads_as : {Held : Type 0} {before after : Option (List ℕ)} {held_before held_after : Held} {faults_before faults_after : ℕ} {old new : WindowView} {A : Type 0} (result : Result A LoadStop) (stop : LoadStop) → result ≡ Err stop →
+    Reads before after held_before held_after faults_before faults_after old new (Some stop) → Reads before after held_before held_after faults_before faults_after old new (stop_in result)
+reads_as {before = before} {after = after} {held_before = held_before} {held_after = held_after} {faults_before = faults_before} {faults_after = faults_after} {old = old} {new = new} result stop is r =
+    subst (λ (s : Option LoadStop). Reads before after held_before held_after faults_before faults_after old new s) (sym (ap stop_in is)) r
+
 -- ---- one more window of a round is cut, and the next one comes in hand
 
 module _ (l : Layout) (layout : IsLayout l) (before between after : Option (List ℕ)) (w : Window) (held mid new : Reader) (same : held.layout ≡ l) (cut : IsCut held mid w) (fills : Fills between after mid new) where
-  pub reaches_more : (old : WindowView) → ReachesOn before between old held.window → ReachesOn before after old new.window
-  reaches_more old r =
-      let few : passed held ≤ length held.window.kept = omega arith in
-      reaches_twice before between after old held.window new.window r (drops_and_reaches between after (passed held) held.window mid.window new.window cut.behind few fills.moved fills.base fills.most)
-
   pub cuts_one_more : (made : List Window) (old : WindowView) (more : List ℕ) → CutsOn l before between made held.number old held.window more → lead held.layout held.number < length held.window.kept →
       IsFilled (want mid.layout mid.number) new.window → (new.window.ended ≡ true → IsAtEnd after) → CutsOn l before after (made ++ w ∷ []) new.number old new.window (more ++ fills.moved.0)
   cuts_one_more made old more h there filled at_end =

@@ -3,7 +3,6 @@ use Rattle.std.proofs.Common.{◌≡◌, ℕ, zero, suc, ◌+◌, ◌-◌, ◌*�
 use Rattle.std.specs.List.{range_with_len}
 use Rattle.std.proofs.Math.Nat.{mul-le-mul_left, mul-le-mul_right, le_of_mul-le-mul_right}
 use Rattle.std.proofs.lemmas.List.{get_or-append-add, get_or_default}
-use Rattle.std.proofs.lemmas.List.FromFn.{get_or-map-range_with_len, length-map-range_with_len}
 use mathlib.Core.Option.{some, some-injective, some-ne-none}
 use lib.ListN.{get_elem?}
 use Rattle.crossbeam_queue.proofs.Lists.{at_index}
@@ -166,9 +165,3 @@ layout_lies data_start size line positive small rows start =
       far = omega (arith, rows);
       early = omega arith;
     }
-
--- windows of the data are numbered
-pub numbered_windows : (l : Layout) (text : List ℕ) (n : ℕ) → AreNumbered (windows_of l text n)
-numbered_windows l text n k d lt =
-    let under : k < n = omega (arith, lt, length-map-range_with_len (window_of l text) 0 n) in
-    ap (λ (w : Window). w.number) (get_or-map-range_with_len (window_of l text) 0 n k k d under (let same : 0 + k ≡ k = omega arith in same))

@@ -1,14 +1,13 @@
 -- Rounds are joined one after another, whatever the data go on with.
 use Rattle.std.proofs.Common.{◌≡◌, ℕ, zero, suc, ◌+◌, ◌-◌, ◌*◌, ◌^◌, ◌<◌, ◌≤◌, true, List, [], ◌++◌, length, refl, sym, ap, ◌∙◌, subst, arith, append_assoc, length-append}
 use Rattle.std.specs.Prelude.{Option}
-use Rattle.std.specs.Io.KnownBytes.{Consumes, IsAtEnd}
-use Rattle.std.proofs.KnownBytes.{Consumes-trans}
+use Rattle.std.specs.Io.KnownBytes.{IsAtEnd}
 use Rattle.std.proofs.Math.Nat.{mul-le-mul_left}
 use Rattle.std.proofs.lemmas.List.{append-nil}
 use Rattle.quote_automaton.specs.declared.state.State.TheVariants.{RowStart}
 use Rattle.range_scan.specs.declared.context.Context.{Context}
 use Rattle.range_scan.specs.Joined.{IsBegun}
-use Rattle.window_load.specs.Window.{WindowView, reach, IsFilled, ReachesOn}
+use Rattle.window_load.specs.Window.{WindowView, reach, IsFilled}
 use Rattle.pipe_load.specs.declared.joining.Counted.{Counted}
 use Rattle.pipe_load.specs.declared.layout.Layout.{Layout}
 use Rattle.pipe_load.specs.declared.reader.Reader.{Reader}
@@ -74,16 +73,6 @@ module _ (context : Context) (l : Layout) (layout : IsLayout l) (head : WindowVi
     cut = cut;
     joined = λ more may. first_window context l layout ((head.kept ++ read) ++ more) counted first begun ranges bytes;
   }
-
-  -- how far the reading reaches, as bytes come
-  pub comes_on : (mid after : Option (List ℕ)) (held new : WindowView) (counted : Counted) → IsUpToRound context l head before mid held counted → ReachesOn mid after held new →
-      (came : List ℕ) × Consumes before after came × (reach head + length came ≡ reach new) × (new.most ≡ head.most)
-  comes_on mid after held new counted h r = (
-    h.read ++ r.0,
-    Consumes-trans before mid after h.read r.0 h.cut.moved r.1,
-    omega (arith, h.cut.reaches, r.2, length-append h.read r.0),
-    r.3 ∙ h.cut.most,
-  )
 
   -- a round is joined
   pub round_on : (mid after : Option (List ℕ)) (n : ℕ) (held left : WindowView) (more : List ℕ) (old new : Counted) → IsUpToRound context l head before mid held old → AddsRound context l mid after n held left more old new → IsUpTo context l head before after n left new

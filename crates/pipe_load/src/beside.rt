@@ -1,10 +1,8 @@
 //! The reading of a round beside the scans of the stages.
-ghost use Rattle.std.specs.Prelude.{◌≡◌, ◌+◌, ◌≤◌, OnOk, Err, length};
+ghost use Rattle.std.specs.Prelude.{◌≡◌, ◌≤◌, OnOk, length};
 ghost use Rattle.crossbeam_queue.specs.Passes.{view};
-ghost use Rattle.csv_source.specs.Causes.{Rose};
 ghost use Rattle.load_options.specs.declared.limits.TheConstants.{THREADS};
-ghost use Rattle.window_load.specs.Window.{reach};
-ghost use Rattle.window_load.specs.declared.stop.LoadStop.TheVariants as stops;
+ghost use Rattle.window_load.specs.Reads.{stop_in};
 ghost use Rattle.pipe_load.specs.Feeding.{BeginsRound, HasFed, made_of};
 ghost use Rattle.pipe_load.specs.Reading.{IsRoundRead, ReadsOn};
 ghost use Rattle.pipe_load.specs.Scanning.{AreStages, HaveWorked};
@@ -37,12 +35,9 @@ impl<'r, 'a, R: Threads + Wait + Sync, G: Gate> Pipeline<'r, 'a, R, G> {
         requires stages { AreStages windows.now self.now.scanner.ranges.context.now self.now.scanner.layout stages.old }
         ensures stages { HaveWorked windows.now self.now.scanner.ranges.context.now self.now.scanner.layout stages.old stages.new }
         ensures fed { HasFed windows.now (view feed.old.pass).stages (length stages.old) reader.old.layout feed.new }
-        ensures moved { ReadsOn (S.left source.old) (S.left source.new) reader.old reader.new }
+        ensures reads { ReadsOn (S.left source.old) (S.left source.new) (S.held source.old) (S.held source.new) (S.faults source.old) (S.faults source.new)
+            reader.old reader.new (stop_in result) }
         ensures ok { OnOk result (IsRoundRead (S.left source.old) (S.left source.new) (made_of feed.new) reader.old reader.new) }
-        ensures too_large { result ≡ Err stops.TooLarge → reach reader.new.window ≡ reader.new.window.most + 1 }
-        ensures held { S.held source.new ≡ S.held source.old }
-        ensures count { S.faults source.old ≤ S.faults source.new }
-        ensures failed { result ≡ Err stops.Failed → Rose (S.faults source.old) (S.faults source.new) }
     {
         let count = stages.len();
         let ((), read) = thread::join_mut(

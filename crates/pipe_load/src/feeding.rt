@@ -1,10 +1,8 @@
 //! The caller's side of the queue while it reads.
-ghost use Rattle.std.specs.Prelude.{◌≡◌, ◌+◌, ◌<◌, ◌≤◌, ◌^◌, ◌++◌, ◌∷◌, [], length, IsTrue, IsFalse, OnOk, OnErr, Err};
+ghost use Rattle.std.specs.Prelude.{◌≡◌, ◌+◌, ◌<◌, ◌≤◌, ◌^◌, ◌++◌, ◌∷◌, [], length, IsTrue, IsFalse, OnOk, OnErr};
 ghost use Rattle.crossbeam_queue.specs.Passes.{view};
-ghost use Rattle.csv_source.specs.Causes.{Rose};
 ghost use Rattle.load_options.specs.declared.limits.TheConstants.{THREADS};
-ghost use Rattle.window_load.specs.Window.{reach};
-ghost use Rattle.window_load.specs.declared.stop.LoadStop.TheVariants as stops;
+ghost use Rattle.window_load.specs.Reads.{stop_in};
 ghost use Rattle.pipe_load.specs.Feeding.{BeginsRound, HasFed, IsCallers, IsFeed, IsFed, WaitsForRoom, made_of};
 ghost use Rattle.pipe_load.specs.Layout.{round_len};
 ghost use Rattle.pipe_load.specs.PassViews.{with_marks};
@@ -71,12 +69,9 @@ impl Feed {
         requires begins { BeginsRound windows.now (S.left source.old) reader.old self.old }
         ensures feed { IsFeed windows.now (view self.old.pass).stages self.new }
         ensures few { length (made_of self.new) ≤ round_len reader.old.layout }
-        ensures moved { ReadsOn (S.left source.old) (S.left source.new) reader.old reader.new }
+        ensures reads { ReadsOn (S.left source.old) (S.left source.new) (S.held source.old) (S.held source.new) (S.faults source.old) (S.faults source.new)
+            reader.old reader.new (stop_in result) }
         ensures ok { OnOk result (IsRoundRead (S.left source.old) (S.left source.new) (made_of self.new) reader.old reader.new) }
-        ensures too_large { result ≡ Err stops.TooLarge → reach reader.new.window ≡ reader.new.window.most + 1 }
-        ensures held { S.held source.new ≡ S.held source.old }
-        ensures count { S.faults source.old ≤ S.faults source.new }
-        ensures failed { result ≡ Err stops.Failed → Rose (S.faults source.old) (S.faults source.new) }
     {
         let most = reader.layout.round_len();
         while reader.number < most && !reader.is_done() {
@@ -177,12 +172,9 @@ impl Feed {
         requires begins { BeginsRound windows.now (S.left source.old) reader.old self.old }
         requires stages { stages ≤ THREADS.most }
         ensures fed { HasFed windows.now (view self.old.pass).stages stages reader.old.layout self.new }
-        ensures moved { ReadsOn (S.left source.old) (S.left source.new) reader.old reader.new }
+        ensures reads { ReadsOn (S.left source.old) (S.left source.new) (S.held source.old) (S.held source.new) (S.faults source.old) (S.faults source.new)
+            reader.old reader.new (stop_in result) }
         ensures ok { OnOk result (IsRoundRead (S.left source.old) (S.left source.new) (made_of self.new) reader.old reader.new) }
-        ensures too_large { result ≡ Err stops.TooLarge → reach reader.new.window ≡ reader.new.window.most + 1 }
-        ensures held { S.held source.new ≡ S.held source.old }
-        ensures count { S.faults source.old ≤ S.faults source.new }
-        ensures failed { result ≡ Err stops.Failed → Rose (S.faults source.old) (S.faults source.new) }
     {
         let read = self.put_round(rt, windows, reader, source);
         self.put_to_end(rt, windows, stages);

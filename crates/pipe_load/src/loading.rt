@@ -1,12 +1,13 @@
 //! The pipelined load.
-ghost use Rattle.std.specs.Prelude.{◌≡◌, ◌+◌, ◌≤◌, ◌<◌, ◌^◌, ℕ, List, true, IfOk, Err, length, drop};
-ghost use Rattle.std.specs.Io.KnownBytes.{Consumes, IsAtEnd};
+ghost use Rattle.std.specs.Prelude.{◌≡◌, ◌≤◌, ◌<◌, ◌^◌, ℕ, List, true, IfOk, Err, length, drop};
+ghost use Rattle.std.specs.Io.KnownBytes.{IsAtEnd};
 ghost use Rattle.csv_source.specs.Causes.{Rose};
 ghost use Rattle.reject_book.specs.declared.book.Keep.TheVariants.{First as first_of};
 ghost use Rattle.load_options.specs.declared.limits.TheConstants.{MAX_LINE_SIZE, RANGE_SIZE, THREADS};
 ghost use Rattle.range_scan.specs.Scanned.{HasColumns};
 ghost use Rattle.window_load.specs.DataRead.{IsWindowRead, Comes, ComesWhole, ComesOver};
-ghost use Rattle.window_load.specs.Window.{reach};
+ghost use Rattle.window_load.specs.Reads.{Reads, stop_in};
+ghost use Rattle.window_load.specs.Window.{WindowView};
 ghost use Rattle.window_load.specs.declared.stop.LoadStop.TheVariants as stops;
 ghost use Rattle.pipe_load.specs.Layout.{IsLayout};
 ghost use Rattle.pipe_load.specs.Loading.{HasReach, IsAllRead};
@@ -36,14 +37,10 @@ fn load_rounds<R: Threads + Wait + Sync, S: Source + Send, G: Gate>(
     requires room { window.most ≤ 2 ^ 32 }
     requires fits { HasColumns loader.now.context.now.schema }
     requires threads { (1 ≤ loader.now.threads) × (loader.now.threads ≤ THREADS.most) }
-    // Whatever the answer, bytes came from the source, and the rest is left.
-    ensures moved { Comes (S.left source.old) (S.left source.new) }
+    // Whatever the answer, the window reached further on the source.
+    ensures reads { (last : WindowView) × Reads (S.left source.old) (S.left source.new) (S.held source.old) (S.held source.new) (S.faults source.old) (S.faults source.new)
+        window last (stop_in result) }
     ensures ok { IfOk result (λ read. (came : List ℕ) × IsAllRead loader.now.context.now layout.data_start layout.range_size window (S.left source.old) (S.left source.new) came read) }
-    ensures too_large { result ≡ Err stops.TooLarge → (came : List ℕ)
-        × Consumes (S.left source.old) (S.left source.new) came × (reach window + length came ≡ window.most + 1) }
-    ensures failed { result ≡ Err stops.Failed → Rose (S.faults source.old) (S.faults source.new) }
-    ensures held { S.held source.new ≡ S.held source.old }
-    ensures count { S.faults source.old ≤ S.faults source.new }
 {
     let mut reader = Reader::new(loader.alloc, window, layout);
     reader.fill(source)?;

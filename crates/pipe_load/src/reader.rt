@@ -1,9 +1,8 @@
 //! Windows are cut from what is held of the input and what comes.
-ghost use Rattle.std.specs.Prelude.{◌≡◌, ◌≤◌, ◌<◌, ◌+◌, ◌^◌, true, length, take, IfOk, OnOk, OnErr, Err, IsTrue, IsFalse};
+ghost use Rattle.std.specs.Prelude.{◌≡◌, ◌≤◌, ◌<◌, ◌+◌, ◌^◌, true, length, take, IfOk, OnOk, OnErr, IsTrue, IsFalse};
 ghost use Rattle.std.specs.Io.KnownBytes.{IsAtEnd};
-ghost use Rattle.csv_source.specs.Causes.{Rose};
-ghost use Rattle.window_load.specs.Window.{reach, behind_front, IsFilled};
-ghost use Rattle.window_load.specs.declared.stop.LoadStop.TheVariants as stops;
+ghost use Rattle.window_load.specs.Reads.{Reads, stop_in};
+ghost use Rattle.window_load.specs.Window.{behind_front, IsFilled};
 ghost use Rattle.pipe_load.specs.Layout.{IsLayout, want, lead};
 ghost use Rattle.pipe_load.specs.Reading.{IsStarted, Fills, IsCut, IsTurned, passed};
 
@@ -54,11 +53,8 @@ impl Reader {
         requires at_end { self.old.window.ended ≡ true → IsAtEnd (S.left source.old) }
         ensures moved { Fills (S.left source.old) (S.left source.new) self.old self.new }
         ensures ok { OnOk result (IsFilled (want self.old.layout self.old.number) self.new.window) }
-        ensures too_large { result ≡ Err stops.TooLarge → reach self.new.window ≡ self.new.window.most + 1 }
-        ensures at_end { self.new.window.ended ≡ true → IsAtEnd (S.left source.new) }
-        ensures held { S.held source.new ≡ S.held source.old }
-        ensures count { S.faults source.old ≤ S.faults source.new }
-        ensures failed { result ≡ Err stops.Failed → Rose (S.faults source.old) (S.faults source.new) }
+        ensures reads { Reads (S.left source.old) (S.left source.new) (S.held source.old) (S.held source.new) (S.faults source.old) (S.faults source.new)
+            self.old.window self.new.window (stop_in result) }
     {
         let want = self.layout.want(self.number) as usize;
         self.window.fill_to(source, want)

@@ -1,11 +1,9 @@
 //! A round of a pipelined load.
-ghost use Rattle.std.specs.Prelude.{◌≡◌, ◌+◌, ◌≤◌, ◌<◌, ℕ, List, true, OnOk, Err, length};
+ghost use Rattle.std.specs.Prelude.{◌≡◌, ◌≤◌, ◌<◌, ℕ, List, true, OnOk};
 ghost use Rattle.std.specs.Io.KnownBytes.{IsAtEnd};
-ghost use Rattle.csv_source.specs.Causes.{Rose};
 ghost use Rattle.load_options.specs.declared.limits.TheConstants.{THREADS};
 ghost use Rattle.range_scan.specs.Scanned.{HasColumns};
-ghost use Rattle.window_load.specs.Window.{reach};
-ghost use Rattle.window_load.specs.declared.stop.LoadStop.TheVariants as stops;
+ghost use Rattle.window_load.specs.Reads.{stop_in};
 ghost use Rattle.pipe_load.specs.Layout.{IsLayout, round_len};
 ghost use Rattle.pipe_load.specs.Loading.{HasReach, AddsRound};
 ghost use Rattle.pipe_load.specs.Reading.{EndsRound, ReadsOn};
@@ -65,15 +63,12 @@ impl<'r, 'a, R: Threads + Wait + Sync, G: Gate> Pipeline<'r, 'a, R, G> {
         requires at_end { reader.old.window.ended ≡ true → IsAtEnd (S.left source.old) }
         requires types { counted.old.joined.table.types ≡ self.now.scanner.ranges.context.now.schema.types }
         requires keep { counted.old.joined.book.keep ≡ self.now.scanner.ranges.context.now.keep }
-        ensures moved { ReadsOn (S.left source.old) (S.left source.new) reader.old reader.new }
+        ensures reads { ReadsOn (S.left source.old) (S.left source.new) (S.held source.old) (S.held source.new) (S.faults source.old) (S.faults source.new)
+            reader.old reader.new (stop_in result) }
         ensures ok { OnOk result ((more : List ℕ) × AddsRound self.now.scanner.ranges.context.now self.now.scanner.layout (S.left source.old) (S.left source.new)
             reader.new.number reader.old.window reader.new.window more counted.old counted.new) }
         ensures few { OnOk result (reader.new.number ≤ round_len reader.old.layout) }
         ensures whole { OnOk result (EndsRound reader.old.layout reader.new.number reader.new.window) }
-        ensures too_large { result ≡ Err stops.TooLarge → reach reader.new.window ≡ reader.new.window.most + 1 }
-        ensures held { S.held source.new ≡ S.held source.old }
-        ensures count { S.faults source.old ≤ S.faults source.new }
-        ensures failed { result ≡ Err stops.Failed → Rose (S.faults source.old) (S.faults source.new) }
     {
         let alloc = self.scanner.ranges.alloc;
         let (windows, mut pass) = Windows::new(alloc)?;

@@ -1,11 +1,13 @@
-use Rattle.std.proofs.Common.{rules, ◌≡◌, ◌+◌, ◌≤◌, ℕ, length, sym, ap, ◌∙◌, subst, arith}
-use Rattle.window_load.specs.Window.{WindowView, reach}
+use Rattle.std.proofs.Common.{rules, ◌≡◌, ◌≤◌, ℕ, length, sym, ap, ◌∙◌, subst, arith}
+use Rattle.window_load.specs.Window.{WindowView}
+use Rattle.window_load.proofs.ReadSteps.{reads_from, reads_short, reads_same, reads_twice}
 use Rattle.window_load.specs.declared.data_read.DataRead.{DataRead}
 use Rattle.range_scan.specs.declared.context.Context.{Context}
 use Rattle.pipe_load.specs.declared.layout.Layout.{Layout}
 use Rattle.pipe_load.specs.Layout.{IsLayout, lead, turned}
 use Rattle.pipe_load.specs.Loading.{AddsRound, IsAllRead, data_read}
-use Rattle.pipe_load.proofs.RoundLaws.{IsUpToRound, started_cut, first_round, comes_on, round_on, turned_on, all_done, few_before}
+use Rattle.pipe_load.proofs.FeedingLaws.{reads_as}
+use Rattle.pipe_load.proofs.RoundLaws.{IsUpToRound, started_cut, first_round, round_on, turned_on, all_done, few_before}
 use Rattle.pipe_load.proofs.loading.load_rounds.Goals as goal
 
 pub loop-counted-init : goal.loop-counted-init
@@ -16,7 +18,7 @@ loop-counted-init g c =
     let fills = c.fill.ensures.moved in
     let same : c.fill.new.self.layout ≡ c.args.layout = fills.layout ∙ c.new-reader.ensures.layout in
     let begun = c.in_ok-counted.ensures in
-    let cut = started_cut c.args.layout c.requires.layout before after c.args.window c.new-reader.result c.fill.new.self c.requires.first c.new-reader.ensures fills c.in_ok-fill.ensures.ok c.fill.ensures.at_end in
+    let cut = started_cut c.args.layout c.requires.layout before after c.args.window c.new-reader.result c.fill.new.self c.requires.first c.new-reader.ensures fills c.in_ok-fill.ensures.ok c.in_ok-fill.ensures.reads.at_end in
     record {
       plan = same ∙ (λ i. record c.args.layout { before = sym (ap (λ (x : Layout). x.before) same) i });
       lies = subst IsLayout (sym same) c.requires.layout;
@@ -25,29 +27,20 @@ loop-counted-init g c =
           (first_round context c.args.layout c.requires.layout c.args.window before after fills.moved.0 c.fill.new.self.window c.in_ok-counted.counted c.requires.first cut begun.0 begun.1 begun.2);
       types = begun.0.part.types;
       keep = ap (λ b. b.keep) begun.0.part.book;
-      held = c.fill.ensures.held;
-      count = c.fill.ensures.count;
+      reads = reads_from c.new-reader.ensures.held c.in_ok-fill.ensures.reads;
     }
 
-pub returns-in_err-load_round-clause-moved : goal.returns-in_err-load_round-clause-moved
-returns-in_err-load_round-clause-moved g c =
-    let inv = c.loop-counted.invariant in
-    let on = comes_on c.args.loader.now.context.now c.loop-counted.reader.layout inv.lies c.args.window (g.S.Source.left c.args.source.now) (g.S.Source.left c.loop-counted.source) (g.S.Source.left c.load_round.new.source)
-    c.loop-counted.reader.window c.load_round.new.reader.window c.loop-counted.counted inv.up_to c.load_round.ensures.moved.moved in (on.0, on.1)
+pub returns-in_err-fill-clause-reads : goal.returns-in_err-fill-clause-reads
+returns-in_err-fill-clause-reads g c = (c.fill.new.self.window, reads_as c.from_residual.result c.in_err-fill.field-0.0 (search rules) (reads_from c.new-reader.ensures.held c.in_err-fill.ensures.reads))
 
-pub returns-in_err-load_round-clause-too_large : goal.returns-in_err-load_round-clause-too_large
-returns-in_err-load_round-clause-too_large g c = λ e.
-    let inv = c.loop-counted.invariant in
-    let on = comes_on c.args.loader.now.context.now c.loop-counted.reader.layout inv.lies c.args.window (g.S.Source.left c.args.source.now) (g.S.Source.left c.loop-counted.source) (g.S.Source.left c.load_round.new.source)
-    c.loop-counted.reader.window c.load_round.new.reader.window c.loop-counted.counted inv.up_to c.load_round.ensures.moved.moved in
-    let over : reach c.load_round.new.reader.window ≡ c.load_round.new.reader.window.most + 1 = search rules in
-    let far = on.2 in let most = on.3 in (on.0, on.1, omega (arith, over, far, most))
+pub returns-in_err-counted-clause-reads : goal.returns-in_err-counted-clause-reads
+returns-in_err-counted-clause-reads g c = (c.fill.new.self.window, reads_short (reads_from c.new-reader.ensures.held c.in_ok-fill.ensures.reads) c.from_residual-in_err-counted.result (search rules))
 
-pub returns-then-is_done-clause-moved : goal.returns-then-is_done-clause-moved
-returns-then-is_done-clause-moved g c =
-    let inv = c.loop-counted.invariant in
-    let on = comes_on c.args.loader.now.context.now c.loop-counted.reader.layout inv.lies c.args.window (g.S.Source.left c.args.source.now) (g.S.Source.left c.loop-counted.source) (g.S.Source.left c.load_round.new.source)
-    c.loop-counted.reader.window c.load_round.new.reader.window c.loop-counted.counted inv.up_to c.load_round.ensures.moved.moved in (on.0, on.1)
+pub returns-in_err-load_round-clause-reads : goal.returns-in_err-load_round-clause-reads
+returns-in_err-load_round-clause-reads g c = (c.load_round.new.reader.window, reads_as c.from_residual-in_err-load_round.result c.in_err-load_round.field-0.0 (search rules) (reads_twice c.loop-counted.invariant.reads c.in_err-load_round.ensures.reads.reads))
+
+pub returns-then-is_done-clause-reads : goal.returns-then-is_done-clause-reads
+returns-then-is_done-clause-reads g c = (c.load_round.new.reader.window, reads_twice c.loop-counted.invariant.reads c.in_ok-load_round.ensures.reads.reads)
 
 pub returns-then-is_done-clause-ok : goal.returns-then-is_done-clause-ok
 returns-then-is_done-clause-ok g c =
@@ -64,7 +57,7 @@ returns-then-is_done-clause-ok g c =
     c.round_of.ensures.context ok.1) in
     let up = round_on context l inv.lies c.args.window before (g.S.Source.left c.loop-counted.source) after new.reader.number c.loop-counted.reader.window new.reader.window ok.0 c.loop-counted.counted new.counted inv.up_to round in
     let few : length new.reader.window.kept ≤ lead l new.reader.number =
-    subst (λ (x : Layout). length new.reader.window.kept ≤ lead x new.reader.number) c.load_round.ensures.moved.layout (c.is_done.ensures.none c.if-is_done.true) in
+    subst (λ (x : Layout). length new.reader.window.kept ≤ lead x new.reader.number) c.load_round.ensures.reads.layout (c.is_done.ensures.none c.if-is_done.true) in
     let done = all_done context l inv.lies c.args.window before after new.reader.number new.reader.window new.counted up few in (
       done.0,
       subst (λ (d : DataRead). IsAllRead context c.args.layout.data_start c.args.layout.range_size c.args.window before after done.0 d) (sym c.data_read.ensures)
@@ -86,7 +79,7 @@ turn-requires g c =
     c.round_of.ensures.context ok.1) in
     let up = round_on context l inv.lies c.args.window before (g.S.Source.left c.loop-counted.source) after new.reader.number c.loop-counted.reader.window new.reader.window ok.0 c.loop-counted.counted new.counted inv.up_to round in
     let few = few_before context l inv.lies c.args.window before after new.reader.number new.reader.window new.counted up c.requires.room in
-    let same : new.reader.layout.before ≡ l.before = ap (λ (x : Layout). x.before) c.load_round.ensures.moved.layout in
+    let same : new.reader.layout.before ≡ l.before = ap (λ (x : Layout). x.before) c.load_round.ensures.reads.layout in
     record { early = omega (arith, few, same) }
 
 pub loop-counted-preserved : goal.loop-counted-preserved
@@ -106,7 +99,7 @@ loop-counted-preserved g c =
     let up = round_on context l inv.lies c.args.window before (g.S.Source.left c.loop-counted.source) after n c.loop-counted.reader.window new.reader.window ok.0 c.loop-counted.counted new.counted inv.up_to round in
     let few = few_before context l inv.lies c.args.window before after n new.reader.window new.counted up c.requires.room in
     let turn = c.turn.ensures in
-    let same : c.turn.new.self.layout ≡ turned l n = turn.layout ∙ ap (λ (x : Layout). turned x n) c.load_round.ensures.moved.layout in
+    let same : c.turn.new.self.layout ≡ turned l n = turn.layout ∙ ap (λ (x : Layout). turned x n) c.load_round.ensures.reads.layout in
     let lies = inv.lies in
     record {
       plan = same ∙ ap (λ (x : Layout). turned x n) inv.plan ∙ (λ i. record c.args.layout { before = sym (ap (λ (x : Layout). x.before) same) i });
@@ -125,6 +118,5 @@ loop-counted-preserved g c =
           (subst (λ (v : WindowView). IsUpToRound context (turned l n) c.args.window before after v new.counted) (sym turn.window) (turned_on context l inv.lies c.args.window before after n new.reader.window new.counted up));
       types = round.adds.types;
       keep = round.adds.keep;
-      held = c.load_round.ensures.held ∙ inv.held;
-      count = let a = c.load_round.ensures.count in let b = inv.count in omega (arith, a, b);
+      reads = reads_same (reads_twice inv.reads c.in_ok-load_round.ensures.reads.reads) turn.window;
     }

@@ -1,4 +1,6 @@
-use Rattle.std.proofs.Common.{◌≡◌, ◌≤◌, ◌-◌, ◌^◌}
+use Rattle.std.proofs.Common.{◌≡◌, ◌-◌, ◌^◌}
+use Rattle.std.specs.Prelude.{None}
+use Rattle.window_load.specs.Reads.{Reads}
 use Rattle.pipe_load.specs.Layout.{IsLayout}
 use Rattle.pipe_load.proofs.RoundLaws.{IsUpToRound}
 use Rattle.pipe_load.proofs.loading.load_rounds.Given as goal
@@ -11,8 +13,7 @@ invariant-loop-counted g l = record {
   up_to : IsUpToRound l.loader.context.now l.reader.layout l.fn.window (g.S.Source.left l.fn.source) (g.S.Source.left l.source) l.reader.window l.counted;
   types : l.counted.joined.table.types ≡ l.loader.context.now.schema.types;
   keep : l.counted.joined.book.keep ≡ l.loader.context.now.keep;
-  held : g.S.Source.held l.source ≡ g.S.Source.held l.fn.source;
-  count : g.S.Source.faults l.fn.source ≤ g.S.Source.faults l.source;
+  reads : Reads (g.S.Source.left l.fn.source) (g.S.Source.left l.source) (g.S.Source.held l.fn.source) (g.S.Source.held l.source) (g.S.Source.faults l.fn.source) (g.S.Source.faults l.source) l.fn.window l.reader.window None;
 }
 
 -- each round has windows

@@ -1,7 +1,7 @@
-use Rattle.std.proofs.Common.{◌≡◌, ◌≤◌, ◌-◌, List, ℕ, true, length}
-use Rattle.std.specs.Io.KnownBytes.{IsAtEnd}
+use Rattle.std.proofs.Common.{◌≡◌, ◌≤◌, ◌-◌, List, ℕ, length}
+use Rattle.std.specs.Prelude.{None}
 use Rattle.crossbeam_queue.specs.Passes.{view}
-use Rattle.window_load.specs.Window.{ReachesOn}
+use Rattle.window_load.specs.Reads.{Reads}
 use Rattle.pipe_load.specs.Feeding.{IsFeed, made_of}
 use Rattle.pipe_load.specs.Reading.{CutsOn}
 use Rattle.pipe_load.proofs.feeding.Feed.put_round.Given as goal
@@ -13,10 +13,7 @@ invariant-loop-reader g l = record {
   counted : length (made_of l.self) ≡ l.reader.number;
   few : l.reader.number ≤ l.most;
   layout : l.reader.layout ≡ l.fn.reader.layout;
-  moved : ReachesOn (g.S.Source.left l.fn.source) (g.S.Source.left l.source) l.fn.reader.window l.reader.window;
-  at_end : l.reader.window.ended ≡ true → IsAtEnd (g.S.Source.left l.source);
-  held : g.S.Source.held l.source ≡ g.S.Source.held l.fn.source;
-  count : g.S.Source.faults l.fn.source ≤ g.S.Source.faults l.source;
+  reads : Reads (g.S.Source.left l.fn.source) (g.S.Source.left l.source) (g.S.Source.held l.fn.source) (g.S.Source.held l.source) (g.S.Source.faults l.fn.source) (g.S.Source.faults l.source) l.fn.reader.window l.reader.window None;
 }
 
 abbrev pub decreases-loop-reader : goal.decreases-loop-reader
