@@ -105,6 +105,24 @@ def check_other_calls() -> None:
     assert b"row|1|Ana\n" in shell(f"csvload load h.csv {delim}", {"h.csv": ROWS})[1], delim
 
 
+EMPTIED = "csvload: hint: 'g.csv' is standard output itself, which the shell emptied; output=FILE writes it when it was read\n"
+
+NO_DATABASE = "csvload: standard output has the report, and no database; output=FILE leaves a file as it was\n"
+
+
+def check_shell_output() -> None:
+    """What a shell's `>` does to a file is told, and `output` does it not."""
+    files = {"g.csv": ROWS, "bad.csv": b"id,n\n1,2\nx,3\n"}
+    same(shell("csvload convert g.csv > g.csv", files), (0, b"", EMPTIED), "> g.csv")
+    same(shell("csvload convert g.csv > h.csv", files)[2], "", "> h.csv")
+    same(shell("csvload convert g.csv 'delim=;' output=g.csv && cat g.csv", files)[1], ROWS.replace(b";", b","), "output=g.csv")
+    call = "csvload convert bad.csv delim=, types=BIGINT,BIGINT to=sqlite"
+    status, _, said = shell(call + " > o.db", files)
+    assert status == 3 and said.endswith(NO_DATABASE), said
+    for other in [" | cat", " output=o.db", " > /dev/null"]:
+        assert "no database" not in shell(call + other, files)[2], other
+
+
 SCORES = b"# by hand\nname,note,day\nAna,\"x, y\",2024-01-01\nBo,z,2024-01-02\n"
 
 # What is said of it.
@@ -142,4 +160,5 @@ def main() -> None:
     check_piped()
     check_options()
     check_other_calls()
+    check_shell_output()
     check_pasted()

@@ -78,6 +78,8 @@ FAULTS = [
     Case(["load", "no\x1b[31m\n"], 2, "csvload: 'no\\x1b[31m\\n' isn't there\n", READ),
     Case(["load", "a\u202eb\u0085.csv"], 2, r"csvload: 'a\xe2\x80\xaeb\xc2\x85.csv' isn't there" + "\n", READ),
     Case(["load", LONG], 2, f"csvload: '{LONG}' isn't there\n", READ),
+    Case(["batch", "f.csv, g.csv"], 2, "csvload: ' g.csv' isn't there; no space stands behind a comma\n", READ, F),
+    Case(["load", " g.csv"], 2, "csvload: ' g.csv' isn't there\n", READ, F),
     Case(["batch", "f.csv,nope.csv,f.csv"], 2, "csvload: 'nope.csv' isn't there\n", READ, F),
     Case(["load", "f.csv", "max_input=9"], 7, f"csvload: 'f.csv' has more than 9 bytes (max_input); {MOST}\n", NINE, F),
     Case(["batch", "g.csv,f.csv", "max_input=9"], 7, f"csvload: 'f.csv' has more than 9 bytes (max_input); {MOST}\n", NINE, {**F, "g.csv": b"1,2\n"}),

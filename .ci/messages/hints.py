@@ -1,4 +1,4 @@
-"""Hints after an answer: at another delimiter, where one column was found, at lines and a first line that are no rows, and at a quote that quotes nothing."""
+"""Hints after an answer: at another delimiter, where one column was found, at lines and a first line that are no rows, at a quote that quotes nothing, and at words."""
 
 from messages.runs import Case, check, run, same
 
@@ -112,7 +112,40 @@ def check_noticed() -> None:
     assert (status, said) == (0, "") and b"\nrow|1|2\nrow|3|4\nrows|2\n" in text, (text, said)
 
 
+AB, BA = b"a,b\nx,y\n", b"b,a\ny,x\n"
+
+FILES = {"f.csv": AB, "g.csv": AB.replace(b"\n", b"\r\n"), "h.csv": BA, "i.csv": b'"a",b\nx,y\n', "j.csv": b"u,v\n"}
+
+OTHER = "csvload: hint: 'h.csv' begins with another header; 'same_header=true' refuses it\n"
+
+SEVERAL = "csvload: hint: 'nullstr=NA,NULL' is one text; 'nulls=NA,NULL' has 2\n"
+
+QUOTES = "csvload: hint: quotes are part of a text: 'nulls=,NA' has none\n"
+
+# Words that are taken for something else than is meant, and those that miss that.
+WORDS = [
+    Case(["load", "f.csv", "delim=t"], 0, "csvload: hint: delim=t is the letter; 'delim=\\t' is a tab\n", None, FILES),
+    Case(["load", "f.csv", "delim=\\t"], 0, "", None, FILES),
+    Case(["load", "f.csv", "nullstr=NA,NULL"], 0, SEVERAL, None, FILES),
+    Case(["convert", "f.csv", "nullstr=NA,NULL"], 0, SEVERAL, None, FILES),
+    Case(["load", "f.csv", "nullstr=NA"], 0, "", None, FILES),
+    Case(["load", "f.csv", "nullstr=NA,NA"], 0, "", None, FILES),
+    Case(["load", "f.csv", "nulls=NA,NULL"], 0, "", None, FILES),
+    Case(["load", "f.csv", 'nulls="","NA"'], 0, QUOTES, None, FILES),
+    Case(["load", "f.csv", 'nulls=",NA'], 0, "", None, FILES),
+    # The first one of several files that begins with other names, where names are found.
+    Case(["batch", "f.csv,g.csv,h.csv,j.csv"], 0, OTHER, None, FILES),
+    Case(["batch", "f.csv,h.csv", "nulls=x"], 0, OTHER, None, FILES),
+    Case(["batch", "f.csv,g.csv"], 0, "", None, FILES),
+    Case(["batch", "f.csv,i.csv"], 0, "", None, FILES),
+    Case(["batch", "f.csv,h.csv", "same_header=false"], 0, "", None, FILES),
+    Case(["batch", "f.csv,h.csv", "header=false"], 0, "", None, FILES),
+    Case(["batch", "f.csv,h.csv", "skip=0"], 0, "", None, FILES),
+]
+
+
 def main() -> None:
     check(HINTS)
     check_skip()
     check_noticed()
+    check(WORDS)

@@ -202,6 +202,9 @@ HELPS = [
     helped(["load", "f.csv", "delim=,"], THREE + b"# c\n5,6\n", "comment=# passes over lines that begin with #; " + ANY),
     helped(["load", "f.csv", "delim=,", "comment="], THREE + b"# c\n5,6\n", "null_padding=true takes missing columns as null; " + ANY),
     # too many
+    helped(["load", "f.csv", "delim=,"], b'a,b\n1,2\n1, "x, y"\n', "a quote behind a space is text; " + ANY),
+    helped(["load", "f.csv", "delim=;"], b'a;b\n1;2\n1; "x; y"\n', "a quote behind a space is text; " + ANY),
+    helped(["load", "f.csv", "delim=;"], b'a;b\n1;2\n1;x, "y";z\n', "csvload sniff f.csv explain=true 'delim=;' tells how the rows are cut; " + ANY),
     helped(["load", "f.csv", "delim=,", "nullstr=n a"], THREE + b"1,2,3\n", "csvload sniff f.csv explain=true delim=, 'nullstr=n a' tells how the rows are cut; " + ANY),
     helped(["load", "f.csv", "delim=,", "nullstr=" + "n" * 60], THREE + b"1,2,3\n", "csvload sniff f.csv explain=true, with the same words tells how the rows are cut; " + ANY),
     helped(["convert", "f.csv", "delim=,", "to=sqlite", "table=t", "output=o.db"], THREE + b"1,2,3\n", "csvload sniff f.csv explain=true delim=, tells how the rows are cut; " + ANY),

@@ -1,102 +1,98 @@
 // Values that an option doesn't allow.
-use crate::excerpt::shortened;
 use crate::given::{command_word, name_of, subject, value_of};
-use csv_source::NoMemory;
+use crate::line::Line;
+use crate::line::Part::{Number, Text, Word};
 use load_options::limits::{OUTPUT_NAME_LIMIT, TABLE_NAME_LIMIT};
 use load_options::{Allowed, NumberRange, Reason, allowed_texts, command_of, why_refused, word_at};
-use std::alloc::Global;
-use value_types::{ColumnType, type_name};
 
 /// The manual's "all rows", which is no number here.
 const ALL_ROWS: &str = "sample_size=-1";
 
-/// Other names of types, in lower case (of DuckDB's manual, "Data Types"), and the types that are meant.
-const MEANT: [(&str, ColumnType); 15] = [
-    ("boolean", ColumnType::Boolean),
-    ("bool", ColumnType::Boolean),
-    ("logical", ColumnType::Boolean),
-    ("bigint", ColumnType::Bigint),
-    ("int8", ColumnType::Bigint),
-    ("long", ColumnType::Bigint),
-    ("date", ColumnType::Date),
-    ("time", ColumnType::Time),
-    ("timestamp", ColumnType::Timestamp),
-    ("datetime", ColumnType::Timestamp),
-    ("varchar", ColumnType::Varchar),
-    ("char", ColumnType::Varchar),
-    ("bpchar", ColumnType::Varchar),
-    ("text", ColumnType::Varchar),
-    ("string", ColumnType::Varchar),
+/// What is said of other names of types, in lower case (of DuckDB's manual, "Data Types").
+const OTHER_TYPES: [(&str, &[&str]); 7] = [
+    ("BOOLEAN is meant", &["boolean", "bool", "logical"]),
+    ("BIGINT is meant", &["bigint", "int8", "long"]),
+    ("DATE is meant", &["date"]),
+    ("TIME is meant", &["time"]),
+    ("TIMESTAMP is meant", &["timestamp", "datetime"]),
+    (
+        "VARCHAR is meant",
+        &["varchar", "char", "bpchar", "text", "string"],
+    ),
+    (
+        "fractions stay VARCHAR",
+        &[
+            "double", "float", "float4", "float8", "real", "decimal", "numeric",
+        ],
+    ),
 ];
 
-/// That a text is no type, and which is meant.
-fn no_type(alloc: Global, text: &str) -> Result<String, NoMemory> {
-    let shown = shortened(alloc, text.as_bytes())?;
-    for (name, meant) in MEANT.iter() {
-        if text.eq_ignore_ascii_case(name) {
-            let meant = type_name(*meant);
-            return Ok(format!(in alloc; "'{shown}' is no type: {meant} is meant")?);
+/// What is said of a text that is no type here.
+fn said_of_type(text: &str) -> Option<&'static str> {
+    for (line, names) in &OTHER_TYPES {
+        for name in *names {
+            if text.eq_ignore_ascii_case(name) {
+                return Some(line);
+            }
         }
     }
-    Ok(format!(in alloc;
-        "'{shown}' is no type (in upper case: BOOLEAN, BIGINT, DATE, TIME, TIMESTAMP, VARCHAR)"
-    )?)
+    None
+}
+
+/// That a text is no type, and what is instead.
+fn push_no_type(said: &mut Line, text: &str) {
+    match said_of_type(text) {
+        Some(line) => said.say("'{}' is no type: {}", &[Word(text), Text(line)]),
+        None => said.say(
+            "'{}' is no type (in upper case: BOOLEAN, BIGINT, DATE, TIME, TIMESTAMP, VARCHAR)",
+            &[Word(text)],
+        ),
+    }
 }
 
 /// That a piece has no type: of a pair behind its last colon.
-fn piece_without_type(
-    alloc: Global,
-    name: &str,
-    piece: &str,
-    allowed: Allowed,
-) -> Result<String, NoMemory> {
+fn push_untyped(said: &mut Line, name: &str, piece: &str, allowed: Allowed) {
     match (allowed, piece.rsplit_once(':')) {
-        (Allowed::ColumnTypes, Some((_, ty))) => no_type(alloc, ty),
-        (Allowed::ColumnTypes, None) => {
-            let pair = shortened(alloc, piece.as_bytes())?;
-            Ok(format!(in alloc;
-                "'{pair}' gives no type: {name} takes NAME:TYPE, cut at each comma"
-            )?)
-        }
-        _ => no_type(alloc, piece),
+        (Allowed::ColumnTypes, Some((_, ty))) => push_no_type(said, ty),
+        (Allowed::ColumnTypes, None) => said.say(
+            "'{}' gives no type: {} takes NAME:TYPE, cut at each comma",
+            &[Word(piece), Text(name)],
+        ),
+        _ => push_no_type(said, piece),
     }
 }
 
 /// What a number may be.
-fn number_taken(alloc: Global, word: &str, range: NumberRange) -> Result<String, NoMemory> {
-    let NumberRange { least, most, .. } = range;
-    let name = name_of(word);
-    let line = if word == ALL_ROWS {
-        format!(in alloc; "{name} takes a number from {least} to {most}; {most} is the most")?
-    } else {
-        format!(in alloc; "{name} takes a number from {least} to {most}")?
-    };
-    Ok(line)
+fn push_range(said: &mut Line, word: &str, range: NumberRange) {
+    let (least, most) = (Number(range.least), Number(range.most));
+    said.say("a number from {} to {}", &[least, most]);
+    if word == ALL_ROWS {
+        said.say("; {} is the most", &[most]);
+    }
 }
 
 /// What an option takes.
-fn taken_by(alloc: Global, word: &str, allowed: Allowed) -> Result<String, NoMemory> {
-    let name = name_of(word);
-    let line = match allowed {
-        Allowed::Delim => format!(in alloc; "{name} takes one ASCII character, or \\t for a tab")?,
-        Allowed::Choice => format!(in alloc; "{name} takes one ASCII character, or nothing")?,
-        Allowed::Truth => format!(in alloc; "{name} takes true or false")?,
-        Allowed::Number(range) => number_taken(alloc, word, range)?,
+fn push_taken(said: &mut Line, word: &str, allowed: Allowed) {
+    let (template, most) = match allowed {
+        Allowed::Number(range) => return push_range(said, word, range),
+        Allowed::Delim => ("one ASCII character, or \\t for a tab", 0),
+        Allowed::Choice => ("one ASCII character, or nothing", 0),
+        Allowed::Truth => ("true or false", 0),
         Allowed::Text | Allowed::Names | Allowed::Types | Allowed::ColumnTypes => {
-            format!(in alloc; "{name} takes another text")?
+            ("another text", 0)
         }
-        Allowed::Nulls => format!(in alloc;
-            "{name} takes texts, cut at each comma; nullstr= gives the empty one alone"
-        )?,
-        Allowed::Format => format!(in alloc; "{name} takes csv or sqlite")?,
-        Allowed::TableName => format!(in alloc;
-            "{name} takes a name of 1 to {TABLE_NAME_LIMIT} bytes that isn't reject_scans or reject_errors and doesn't begin with sqlite_"
-        )?,
-        Allowed::FileName => format!(in alloc;
-            "{name} takes a file's name of 1 to {OUTPUT_NAME_LIMIT} bytes"
-        )?,
+        Allowed::Nulls => (
+            "texts, cut at each comma; nullstr= gives the empty one alone",
+            0,
+        ),
+        Allowed::Format => ("csv or sqlite", 0),
+        Allowed::TableName => (
+            "a name of 1 to {} bytes that isn't reject_scans or reject_errors and doesn't begin with sqlite_",
+            TABLE_NAME_LIMIT,
+        ),
+        Allowed::FileName => ("a file's name of 1 to {} bytes", OUTPUT_NAME_LIMIT),
     };
-    Ok(line)
+    said.say(template, &[Number(most as u64)]);
 }
 
 /// The piece of that place of a word's value, which is cut at each comma.
@@ -113,59 +109,49 @@ fn doubled(piece: &str, allowed: Allowed) -> &str {
 }
 
 /// Why a word's value is refused.
-fn told(alloc: Global, word: &str, allowed: Allowed, reason: Reason) -> Result<String, NoMemory> {
-    let name = name_of(word);
-    let line = match reason {
-        Reason::TooMany(most) => format!(in alloc; "{name} takes {most} at most")?,
+fn push_reason(said: &mut Line, word: &str, allowed: Allowed, reason: Reason) {
+    let name = Text(name_of(word));
+    match reason {
+        Reason::TooMany(most) => said.say("{} takes {} at most", &[name, Number(most as u64)]),
         Reason::Empty(place) => {
-            let number = place.saturating_add(1);
-            format!(in alloc; "name {number} of {name} is empty")?
+            let number = Number((place as u64).saturating_add(1));
+            said.say("name {} of {} is empty", &[number, name]);
         }
         Reason::Twice(place) => {
-            let text = shortened(alloc, doubled(piece_of(word, place), allowed).as_bytes())?;
-            format!(in alloc; "'{text}' stands twice in {name}")?
+            let text = Word(doubled(piece_of(word, place), allowed));
+            said.say("'{}' stands twice in {}", &[text, name]);
         }
-        Reason::NoType(place) => piece_without_type(alloc, name, piece_of(word, place), allowed)?,
+        Reason::NoType(place) => push_untyped(said, name_of(word), piece_of(word, place), allowed),
         Reason::Other => {
-            let (shown, taken) = (
-                shortened(alloc, word.as_bytes())?,
-                taken_by(alloc, word, allowed)?,
-            );
-            format!(in alloc; "'{shown}' is refused: {taken}")?
+            said.say("'{}' is refused: {} takes ", &[Word(word), name]);
+            push_taken(said, word, allowed);
         }
-    };
-    Ok(line)
+    }
 }
 
 /// Why the word behind the command is refused.
-fn bad_subject(alloc: Global, words: &[String]) -> Result<String, NoMemory> {
-    let word = shortened(alloc, subject(words).as_bytes())?;
-    let line = match command_word(words) {
-        "make" => {
-            format!(in alloc; "'{word}' is no number: make takes one from 0 to 4294967295")?
-        }
-        command => format!(in alloc;
-            "'{word}' is refused: {command} takes 1 to 1000 names with commas between them, none empty"
-        )?,
+fn push_bad_subject(said: &mut Line, words: &[String]) {
+    let template = match command_word(words) {
+        "make" => "'{}' is no number: {} takes one from 0 to 4294967295",
+        _ => "'{}' is refused: {} takes 1 to 1000 names with commas between them, none empty",
     };
-    Ok(line)
+    said.say(template, &[Word(subject(words)), Text(command_word(words))]);
 }
 
 /// Why a value is refused.
-pub fn bad_value(alloc: Global, words: &[String], index: usize) -> Result<String, NoMemory> {
+pub fn push_bad_value(said: &mut Line, words: &[String], index: usize) {
     if index == 1 {
-        return bad_subject(alloc, words);
+        return push_bad_subject(said, words);
     }
     let word = word_at(words, index);
     let allowed = match command_of(command_word(words)) {
         Some(command) => allowed_texts(command, name_of(word).as_bytes()),
         None => None,
     };
-    if let Some(allowed) = allowed {
-        if let Some(reason) = why_refused(alloc, allowed, value_of(word).as_bytes())? {
-            return told(alloc, word, allowed, reason);
-        }
+    if let Some(allowed) = allowed
+        && let Ok(Some(reason)) = why_refused(said.alloc(), allowed, value_of(word).as_bytes())
+    {
+        return push_reason(said, word, allowed, reason);
     }
-    let shown = shortened(alloc, word.as_bytes())?;
-    Ok(format!(in alloc; "'{shown}' gives a value that isn't allowed there")?)
+    said.say("'{}' gives a value that isn't allowed there", &[Word(word)]);
 }

@@ -2,23 +2,23 @@
 use crate::excerpt::MOST;
 use crate::given::{gives, is_given, number_given, value_of, word_giving};
 use crate::help_line::FirstFault;
-use crate::shell::shell_word;
+use crate::line::Line;
+use crate::line::Part::{Number, Text};
+use crate::shell::can_be_copied;
 use csv_sniffer::{SAMPLE_LIMIT, Sniffed};
-use csv_source::NoMemory;
 use load_options::limits::SAMPLE_SIZE;
 use reject_book::Reject;
-use std::alloc::Global;
 use value_types::ColumnType;
 
 /// How the values of a type are written.
-fn spelling(ty: ColumnType) -> Option<&'static str> {
+fn spelling(ty: ColumnType) -> &'static str {
     match ty {
-        ColumnType::Boolean => Some("a BOOLEAN is written true or false"),
-        ColumnType::Bigint => Some("a BIGINT is written in digits alone"),
-        ColumnType::Date => Some("a DATE is written 2024-12-31"),
-        ColumnType::Time => Some("a TIME is written 10:30:00"),
-        ColumnType::Timestamp => Some("a TIMESTAMP is written 2024-12-31 10:30:00"),
-        ColumnType::Varchar => None,
+        ColumnType::Boolean => "a BOOLEAN is written true or false; ",
+        ColumnType::Bigint => "a BIGINT is written in digits alone; ",
+        ColumnType::Date => "a DATE is written 2024-12-31; ",
+        ColumnType::Time => "a TIME is written 10:30:00; ",
+        ColumnType::Timestamp => "a TIMESTAMP is written 2024-12-31 10:30:00; ",
+        ColumnType::Varchar => "",
     }
 }
 
@@ -44,26 +44,23 @@ fn is_found(words: &[String], name: &str) -> bool {
     !is_given(words, "types") && !gives(words, "all_varchar", "true") && !is_named(words, name)
 }
 
-/// The word that makes texts of a column, beside the types that are given. There is none of a name that can't be given so, or
-/// that is long.
-fn text_word(alloc: Global, words: &[String], name: &str) -> Result<Option<String>, NoMemory> {
-    if name.is_empty() || name.contains(',') || name.chars().count() > MOST {
-        return Ok(None);
-    }
-    let word = match word_giving(words, "column_types") {
-        Some(given) => format!(in alloc; "{given},{name}:VARCHAR")?,
-        None => format!(in alloc; "column_types={name}:VARCHAR")?,
-    };
-    shell_word(alloc, word.as_str())
+/// Whether a word can give the type of the column of that name, and isn't long.
+fn can_be_given(name: &str) -> bool {
+    !name.is_empty() && !name.contains(',') && name.chars().count() <= MOST && can_be_copied(name)
 }
 
-/// What keeps the values of a column as they are.
-fn kept_text(alloc: Global, words: &[String], name: &str) -> Result<Option<String>, NoMemory> {
-    match text_word(alloc, words, name)? {
-        Some(word) => Ok(Some(format!(in alloc; "{word} keeps this column as text")?)),
+/// What keeps the values of a column as they are, beside the types that are given.
+fn push_kept_text(said: &mut Line, words: &[String], name: &str) {
+    let given = word_giving(words, "column_types");
+    if can_be_given(name) && can_be_copied(given.unwrap_or("")) {
+        match given {
+            Some(given) => said.quoted("{},{}:VARCHAR", &[Text(given), Text(name)]),
+            None => said.quoted("column_types={}:VARCHAR", &[Text(name)]),
+        }
+        said.push(" keeps this column as text; ");
+    } else if given.is_none() {
         // The two can't stand together.
-        None if is_given(words, "column_types") => Ok(None),
-        None => Ok(Some(format!(in alloc; "all_varchar=true keeps texts")?)),
+        said.push("all_varchar=true keeps texts; ");
     }
 }
 
@@ -74,39 +71,17 @@ fn may_be_sampled(words: &[String], reject: &Reject) -> bool {
         && number_given(words, "sample_size", SAMPLE_SIZE) < SAMPLE_SIZE.most
 }
 
-/// What helps where the type of a column was found.
-fn found_help(
-    alloc: Global,
-    words: &[String],
-    name: &str,
-    reject: &Reject,
-) -> Result<Option<String>, NoMemory> {
-    let most = SAMPLE_SIZE.most;
-    let line = match (
-        kept_text(alloc, words, name)?,
-        may_be_sampled(words, reject),
-    ) {
-        (Some(kept), true) => {
-            format!(in alloc; "{kept}; sample_size={most} looks at more rows")?
-        }
-        (None, true) => format!(in alloc; "sample_size={most} looks at more rows")?,
-        (kept, false) => return Ok(kept),
-    };
-    Ok(Some(line))
-}
-
-/// What helps against a value that can't be cast, beside what helps against any fault.
-pub fn cast_help(alloc: Global, fault: &FirstFault<'_>) -> Result<Option<String>, NoMemory> {
+/// What helps against a value that can't be cast, before what helps against any fault.
+pub fn push_cast_help(said: &mut Line, fault: &FirstFault<'_>) {
     // A name that isn't UTF-8 can't be given.
     let name = str::from_utf8(fault.reject.column_name.as_slice()).unwrap_or("");
     if is_found(fault.words, name) {
-        return found_help(alloc, fault.words, name, fault.reject);
-    }
-    match type_of_column(fault.sniffed, fault.reject) {
-        Some(ty) => match spelling(ty) {
-            Some(text) => Ok(Some(String::from_str(alloc, text)?)),
-            None => Ok(None),
-        },
-        None => Ok(None),
+        push_kept_text(said, fault.words, name);
+        if may_be_sampled(fault.words, fault.reject) {
+            let most = SAMPLE_SIZE.most;
+            said.say("sample_size={} looks at more rows; ", &[Number(most)]);
+        }
+    } else if let Some(ty) = type_of_column(fault.sniffed, fault.reject) {
+        said.push(spelling(ty));
     }
 }

@@ -1,9 +1,8 @@
 // The part of a row around its fault, with a caret under the fault.
 ghost use Rattle.std.specs.Prelude.{◌≤◌, length};
 
-use crate::glyphs::{Glyph, Spelling, glyphs_of, text_of};
-use csv_source::NoMemory;
-use std::alloc::Global;
+use crate::glyphs::{Glyph, Spelling};
+use crate::line::Line;
 
 /// How many characters of a row, or of a value, are shown.
 pub const MOST: usize = 60;
@@ -31,18 +30,16 @@ fn front_within(glyphs: &[Glyph], most: usize) -> usize
     glyphs.len()
 }
 
-/// The place from which on at most so many characters are shown.
-fn back_within(glyphs: &[Glyph], most: usize) -> usize
-    ensures within { result ≤ length glyphs.now }
-{
-    let mut shown = 0usize;
-    for (place, glyph) in glyphs.iter().enumerate().rev() {
-        shown = shown.saturating_add(glyph.characters());
-        if shown > most {
-            return place.saturating_add(1);
+/// The last glyphs, as many as show at most so many characters.
+fn back_within(glyphs: &[Glyph], most: usize) -> &[Glyph] {
+    let mut shown = characters_of(glyphs);
+    for (place, glyph) in glyphs.iter().enumerate() {
+        if shown <= most {
+            return &glyphs[place..];
         }
+        shown = shown.saturating_sub(glyph.characters());
     }
-    0
+    &[]
 }
 
 /// The place of the glyph in which a byte lies, or that behind the last one.
@@ -68,27 +65,6 @@ fn columns_of(glyphs: &[Glyph]) -> usize {
     columns
 }
 
-/// So many spaces.
-fn spaces(alloc: Global, count: usize) -> Result<String, NoMemory> {
-    let mut text = String::new(alloc);
-    for _ in 0..count {
-        text.push(' ')?;
-    }
-    Ok(text)
-}
-
-/// The part of a row around one of its bytes, counted from 0, and below it the caret.
-pub fn excerpt(alloc: Global, row: &[u8], byte: u64) -> Result<String, NoMemory> {
-    let glyphs = glyphs_of(alloc, row, Spelling::Row)?;
-    let (before, behind) = glyphs.split_at(place_of_byte(&glyphs, byte));
-    let before = &before[back_within(before, MOST_BEFORE)..];
-    let mut text = text_of(alloc, before)?;
-    let left = MOST.saturating_sub(characters_of(before));
-    text.push_str(text_of(alloc, &behind[..front_within(behind, left)])?.as_str())?;
-    let under = spaces(alloc, columns_of(before))?;
-    Ok(format!(in alloc; "{INDENT}{text}\n{INDENT}{under}^")?)
-}
-
 /// How many characters show glyphs.
 fn characters_of(glyphs: &[Glyph]) -> usize {
     let mut characters = 0usize;
@@ -98,13 +74,29 @@ fn characters_of(glyphs: &[Glyph]) -> usize {
     characters
 }
 
-/// A text as it is shown, cut where it is long.
-pub fn shortened(alloc: Global, text: &[u8]) -> Result<String, NoMemory> {
-    let glyphs = glyphs_of(alloc, text, Spelling::Word)?;
-    let end = front_within(&glyphs, MOST);
-    let mut shown = text_of(alloc, &glyphs[..end])?;
-    if end < glyphs.len() {
-        shown.push_str(CUT)?;
+/// The part of a row around one of its bytes, counted from 0, and below it the caret.
+pub fn push_excerpt(said: &mut Line, row: &[u8], byte: u64) {
+    let glyphs = said.glyphs_of(row, Spelling::Row);
+    let (before, behind) = glyphs.split_at(place_of_byte(&glyphs, byte));
+    let before = back_within(before, MOST_BEFORE);
+    let left = MOST.saturating_sub(characters_of(before));
+    said.push(INDENT);
+    said.glyphs(before);
+    said.glyphs(&behind[..front_within(behind, left)]);
+    said.push("\n");
+    said.push(INDENT);
+    for _ in 0..columns_of(before) {
+        said.push(" ");
     }
-    Ok(shown)
+    said.push("^");
+}
+
+/// A text as it is shown, cut where it is long.
+pub fn push_shortened(said: &mut Line, text: &[u8]) {
+    let glyphs = said.glyphs_of(text, Spelling::Word);
+    let end = front_within(&glyphs, MOST);
+    said.glyphs(&glyphs[..end]);
+    if end < glyphs.len() {
+        said.push(CUT);
+    }
 }

@@ -1,7 +1,5 @@
 // What the words give.
-use csv_source::NoMemory;
 use load_options::{NumberRange, option_named, word_at};
-use std::alloc::Global;
 use value_types::number_within;
 
 /// The file, the number or the names of files.
@@ -21,13 +19,12 @@ pub fn subject(words: &[String]) -> &str {
 }
 
 /// The file of that number, from 0.
-pub fn file_at(alloc: Global, words: &[String], number: u64) -> Result<String, NoMemory> {
+pub fn file_at(words: &[String], number: u64) -> &str {
     let word = subject(words);
-    let name = match command_word(words) {
+    match command_word(words) {
         "batch" => word.split(',').nth(number as usize).unwrap_or(word),
         _ => word,
-    };
-    Ok(String::from_str(alloc, name)?)
+    }
 }
 
 /// What stands before the first `=` of a word, or the word.

@@ -1,6 +1,4 @@
 // Bytes as a person sees them on a terminal: nothing of them moves its cursor.
-use csv_source::NoMemory;
-use std::alloc::Global;
 use unicode_width::UnicodeWidthChar;
 
 /// A character as it stands on a line, or a byte that can't.
@@ -15,7 +13,7 @@ pub enum Glyph {
 }
 
 /// What a backslash stands before.
-#[derive(Clone, Copy, PartialEq, Eq)]
+#[derive(Clone, Copy)]
 pub enum Spelling {
     /// What can't be seen: a word is shown as it was typed.
     Word,
@@ -48,36 +46,11 @@ impl Glyph {
             Glyph::Marked(_) | Glyph::Hex(_) => self.characters(),
         }
     }
-
-    /// Appends it.
-    pub fn push_to(self, text: &mut String) -> Result<(), NoMemory> {
-        match self {
-            Glyph::Plain(character) => text.push(character)?,
-            Glyph::Marked(character) => {
-                text.push('\\')?;
-                text.push(character)?;
-            }
-            Glyph::Hex(byte) => {
-                text.push_str("\\x")?;
-                text.push(hex_digit(byte / 16))?;
-                text.push(hex_digit(byte % 16))?;
-            }
-        }
-        Ok(())
-    }
 }
 
 /// The hexadecimal digit of a value under 16.
-fn hex_digit(value: u8) -> char {
+pub fn hex_digit(value: u8) -> char {
     char::from_digit(u32::from(value), 16).unwrap_or('?')
-}
-
-/// The bytes, each by itself.
-fn push_bytes(glyphs: &mut Vec<Glyph>, bytes: &[u8]) -> Result<(), NoMemory> {
-    for byte in bytes {
-        glyphs.push(Glyph::Hex(*byte))?;
-    }
-    Ok(())
 }
 
 /// Whether a character shows on a line as itself: none that moves a terminal's cursor, begins a command of it, as U+009B
@@ -87,47 +60,45 @@ pub fn is_seen(character: char) -> bool {
         && !matches!(character, '\u{202a}'..='\u{202e}' | '\u{2066}'..='\u{2069}')
 }
 
-/// A character.
-fn push_character(
-    glyphs: &mut Vec<Glyph>,
-    character: char,
-    spelling: Spelling,
-) -> Result<(), NoMemory> {
-    match character {
-        '\n' => glyphs.push(Glyph::Marked('n'))?,
-        '\r' => glyphs.push(Glyph::Marked('r'))?,
-        '\t' => glyphs.push(Glyph::Marked('t'))?,
-        '\\' | '|' if spelling == Spelling::Row => glyphs.push(Glyph::Marked(character))?,
-        _ if !is_seen(character) => {
-            push_bytes(glyphs, character.encode_utf8(&mut [0; 4]).as_bytes())?;
-        }
-        _ => glyphs.push(Glyph::Plain(character))?,
+/// What stands behind the backslash, where a character has one before it.
+fn mark_of(character: char, spelling: Spelling) -> Option<char> {
+    match (character, spelling) {
+        ('\n', _) => Some('n'),
+        ('\r', _) => Some('r'),
+        ('\t', _) => Some('t'),
+        ('\\' | '|', Spelling::Row) => Some(character),
+        _ => None,
     }
-    Ok(())
 }
 
-/// The glyphs of bytes.
-pub fn glyphs_of(alloc: Global, bytes: &[u8], spelling: Spelling) -> Result<Vec<Glyph>, NoMemory> {
-    let mut glyphs = Vec::new(alloc);
+/// Appends bytes, each by itself, and tells whether there was memory.
+fn push_bytes(glyphs: &mut Vec<Glyph>, bytes: &[u8]) -> bool {
+    let mut is_whole = true;
+    for byte in bytes {
+        is_whole = glyphs.push(Glyph::Hex(*byte)).is_ok() && is_whole;
+    }
+    is_whole
+}
+
+/// Appends a character, and tells whether there was memory.
+fn push_character(glyphs: &mut Vec<Glyph>, character: char, spelling: Spelling) -> bool {
+    if let Some(mark) = mark_of(character, spelling) {
+        return glyphs.push(Glyph::Marked(mark)).is_ok();
+    }
+    if !is_seen(character) {
+        return push_bytes(glyphs, character.encode_utf8(&mut [0; 4]).as_bytes());
+    }
+    glyphs.push(Glyph::Plain(character)).is_ok()
+}
+
+/// Appends the glyphs of bytes, and tells whether there was memory.
+pub fn push_glyphs(glyphs: &mut Vec<Glyph>, bytes: &[u8], spelling: Spelling) -> bool {
+    let mut is_whole = true;
     for chunk in bytes.utf8_chunks() {
         for character in chunk.valid().chars() {
-            push_character(&mut glyphs, character, spelling)?;
+            is_whole = push_character(glyphs, character, spelling) && is_whole;
         }
-        push_bytes(&mut glyphs, chunk.invalid())?;
+        is_whole = push_bytes(glyphs, chunk.invalid()) && is_whole;
     }
-    Ok(glyphs)
-}
-
-/// The text that glyphs show.
-pub fn text_of(alloc: Global, glyphs: &[Glyph]) -> Result<String, NoMemory> {
-    let mut text = String::new(alloc);
-    for glyph in glyphs {
-        glyph.push_to(&mut text)?;
-    }
-    Ok(text)
-}
-
-/// A word as it is shown.
-pub fn shown(alloc: Global, word: &str) -> Result<String, NoMemory> {
-    text_of(alloc, &glyphs_of(alloc, word.as_bytes(), Spelling::Word)?)
+    is_whole
 }

@@ -1,14 +1,14 @@
 // What helps against a first fault.
-use crate::again::{call, content_line};
-use crate::cast_help::cast_help;
+use crate::again::{push_again, push_content};
+use crate::cast_help::push_cast_help;
 use crate::content::{Content, NOT_UTF8};
 use crate::given::{count_of_pieces, gives, is_given, number_given, value_of, word_giving};
-use crate::shell::shell_file;
+use crate::line::Line;
+use crate::line::Part::{File, Number, Text};
+use crate::shell::can_be_copied;
 use csv_sniffer::Sniffed;
-use csv_source::NoMemory;
 use load_options::limits::MAX_LINE_SIZE;
 use reject_book::{ErrorKind, Reject};
-use std::alloc::Global;
 
 /// What helps against any fault.
 const ANY: &str = "ignore_errors=true passes over faulty rows, store_rejects=true lists them";
@@ -32,35 +32,14 @@ pub struct FirstFault<'a> {
     pub reject: &'a Reject,
 }
 
-/// What helps.
-#[derive(Drop)]
-enum Help {
-    /// This alone.
-    Alone(String),
-    /// This, or what helps against any fault.
-    Before(String),
-    /// What helps against any fault.
-    Any,
-}
-
-/// How many columns an option gives, where it is given.
-fn count_told(alloc: Global, words: &[String], name: &str) -> Result<Option<String>, NoMemory> {
-    let Some(word) = word_giving(words, name) else {
-        return Ok(None);
-    };
-    let line = match count_of_pieces(value_of(word)) {
-        1 => format!(in alloc; "{name} gives 1 column")?,
-        count => format!(in alloc; "{name} gives {count} columns")?,
-    };
-    Ok(Some(line))
-}
-
-/// How many columns the words give, where they do.
-fn given_columns(alloc: Global, words: &[String]) -> Result<Option<String>, NoMemory> {
-    match count_told(alloc, words, "types")? {
-        Some(line) => Ok(Some(line)),
-        None => count_told(alloc, words, "names"),
+/// The option that gives as many columns as it has pieces, and its value.
+fn giving_columns(words: &[String]) -> Option<(&'static str, &str)> {
+    for name in ["types", "names"] {
+        if let Some(word) = word_giving(words, name) {
+            return Some((name, value_of(word)));
+        }
     }
+    None
 }
 
 impl FirstFault<'_> {
@@ -87,7 +66,8 @@ impl FirstFault<'_> {
 
     /// Whether the row is the byte that ends a text of DOS, at the end of the file.
     fn is_dos_end(&self) -> bool {
-        self.reject.csv_line.as_slice() == DOS_END
+        matches!(self.reject.error_type, ErrorKind::MissingColumns)
+            && self.reject.csv_line.as_slice() == DOS_END
             && self.read <= self.reject.line_byte_position.saturating_add(1)
     }
 
@@ -96,58 +76,42 @@ impl FirstFault<'_> {
         number_given(self.words, "max_line_size", MAX_LINE_SIZE) < MAX_LINE_SIZE.most
     }
 
+    /// Whether a quote stands in the row behind a delimiter and a space.
+    fn has_spaced_quote(&self) -> bool {
+        let spaced = [self.sniffed.dialect.delim(), b' ', b'"'];
+        let row = self.reject.csv_line.as_slice();
+        row.windows(spaced.len())
+            .any(|bytes| bytes == spaced.as_slice())
+    }
+
     /// What tells how the rows are cut.
-    fn cutting(&self, alloc: Global) -> Result<Help, NoMemory> {
-        let Some(file) = shell_file(alloc, self.file)? else {
-            return Ok(Help::Any);
-        };
-        let begin = format!(in alloc; "csvload sniff {file} explain=true")?;
-        let call = call(alloc, self.words, begin.as_str(), &NOT_OF_SNIFF)?;
-        Ok(Help::Before(format!(in alloc; "{call} tells how the rows are cut")?))
+    fn push_cutting(&self, said: &mut Line) {
+        if can_be_copied(self.file) {
+            said.say("csvload sniff {} explain=true", &[File(self.file)]);
+            push_again(said, self.words, &NOT_OF_SNIFF);
+            said.push(" tells how the rows are cut; ");
+        }
     }
 
     /// What helps against faults of its kind.
-    fn by_kind(&self, alloc: Global) -> Result<Help, NoMemory> {
-        let text = match self.reject.error_type {
-            ErrorKind::MissingColumns if self.is_dos_end() => {
-                let line = format!(in alloc;
-                    "byte 1A ends a file of DOS; ignore_errors=true passes over it"
-                )?;
-                return Ok(Help::Alone(line));
-            }
+    fn push_by_kind(&self, said: &mut Line) {
+        match self.reject.error_type {
             ErrorKind::MissingColumns => {
-                format!(in alloc; "null_padding=true takes missing columns as null")?
+                said.push("null_padding=true takes missing columns as null; ");
             }
-            ErrorKind::TooManyColumns => return self.cutting(alloc),
+            ErrorKind::TooManyColumns if self.has_spaced_quote() => {
+                said.push("a quote behind a space is text; ");
+            }
+            ErrorKind::TooManyColumns => self.push_cutting(said),
             ErrorKind::LineSize if self.may_be_longer() => {
-                let most = MAX_LINE_SIZE.most;
-                format!(in alloc; "max_line_size={most} is the most")?
+                said.say(
+                    "max_line_size={} is the most; ",
+                    &[Number(MAX_LINE_SIZE.most)],
+                );
             }
-            ErrorKind::Cast => match cast_help(alloc, self)? {
-                Some(help) => help,
-                None => return Ok(Help::Any),
-            },
-            _ => return Ok(Help::Any),
-        };
-        Ok(Help::Before(text))
-    }
-
-    /// What helps: the first that holds.
-    fn help(&self, alloc: Global) -> Result<Help, NoMemory> {
-        if self.is_of_columns()
-            && let Some(line) = given_columns(alloc, self.words)?
-        {
-            return Ok(Help::Alone(line));
+            ErrorKind::Cast => push_cast_help(said, self),
+            _ => {}
         }
-        if self.may_have_other_header() {
-            let text = format!(in alloc; "same_header=true tells a file with another header")?;
-            return Ok(Help::Before(text));
-        }
-        if self.is_of_columns() && self.may_have_comments() {
-            let text = format!(in alloc; "comment=# passes over lines that begin with #")?;
-            return Ok(Help::Before(text));
-        }
-        self.by_kind(alloc)
     }
 
     /// What the file is, where it is no CSV as it stands.
@@ -160,15 +124,34 @@ impl FirstFault<'_> {
     }
 }
 
-/// What helps against a first fault.
-pub fn help_line(alloc: Global, fault: &FirstFault<'_>) -> Result<String, NoMemory> {
+/// What helps against a fault of columns where the words give them.
+fn push_given(said: &mut Line, name: &str, value: &str) {
+    let count = count_of_pieces(value);
+    let columns = if count == 1 { "column" } else { "columns" };
+    said.say(
+        "{} gives {} {}",
+        &[Text(name), Number(count as u64), Text(columns)],
+    );
+}
+
+/// What helps against a first fault: the first that holds.
+pub fn push_help(said: &mut Line, fault: &FirstFault<'_>) {
     if let Some(content) = fault.content() {
-        return content_line(alloc, fault.words, fault.file, content);
+        return push_content(said, fault.words, fault.file, content);
     }
-    let line = match fault.help(alloc)? {
-        Help::Alone(line) => line,
-        Help::Before(text) => format!(in alloc; "{text}; {ANY}")?,
-        Help::Any => format!(in alloc; "{ANY}")?,
-    };
-    Ok(line)
+    if fault.is_of_columns()
+        && let Some((name, value)) = giving_columns(fault.words)
+    {
+        return push_given(said, name, value);
+    }
+    if fault.may_have_other_header() {
+        said.push("same_header=true tells a file with another header; ");
+    } else if fault.is_of_columns() && fault.may_have_comments() {
+        said.push("comment=# passes over lines that begin with #; ");
+    } else if fault.is_dos_end() {
+        return said.push("byte 1A ends a file of DOS; ignore_errors=true passes over it");
+    } else {
+        fault.push_by_kind(said);
+    }
+    said.push(ANY);
 }

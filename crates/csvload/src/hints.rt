@@ -1,7 +1,8 @@
 // Words that may be worth a try, after an answer.
-use crate::given::is_given;
-use csv_source::NoMemory;
-use std::alloc::Global;
+use crate::given::{gives, is_given};
+use crate::line::Line;
+use crate::line::Part::{Number, Text};
+use csv_sniffer::Noticed;
 
 /// The mark that may stand before a text in UTF-8.
 const MARK: &[u8] = b"\xef\xbb\xbf";
@@ -10,51 +11,40 @@ const MARK: &[u8] = b"\xef\xbb\xbf";
 const SEPARATOR: &str = "sep=";
 
 /// A hint at another delimiter, where one column was found. A tab is written as the option takes it.
-pub fn delim_hint(alloc: Global, delim: Option<u8>) -> Result<Option<String>, NoMemory> {
-    let Some(delim) = delim else {
-        return Ok(None);
-    };
-    let tab = delim == b'\t';
-    let (escape, letter) = if tab {
-        ("\\", 't')
+fn push_delim(said: &mut Line, delim: u8) {
+    said.next_line();
+    said.push("hint: most rows have one field; 'delim=");
+    if delim == b'\t' {
+        said.push("\\t");
     } else {
-        ("", char::from(delim))
-    };
-    Ok(Some(format!(in alloc;
-        "hint: most rows have one field; 'delim={escape}{letter}' may give more"
-    )?))
+        said.push_char(char::from(delim));
+    }
+    said.push("' may give more");
 }
 
-/// A hint at lines that look like comment lines, so many of them, where nothing is said of them.
-pub fn comment_hint(
-    alloc: Global,
-    words: &[String],
-    lines: u64,
-) -> Result<Option<String>, NoMemory> {
-    if is_given(words, "comment") {
-        return Ok(None);
-    }
+/// A hint at so many lines that look like comment lines.
+fn push_comment(said: &mut Line, lines: u64) {
     let (begin, them) = match lines {
-        0 => return Ok(None),
-        1 => (format!(in alloc; "1 line begins")?, "it"),
-        _ => (format!(in alloc; "{lines} lines begin")?, "them"),
+        1 => ("line begins", "it"),
+        _ => ("lines begin", "them"),
     };
-    Ok(Some(format!(in alloc; "hint: {begin} with '#'; 'comment=#' passes over {them}")?))
+    said.next_line();
+    said.say(
+        "hint: {} {} with '#'; 'comment=#' passes over {}",
+        &[Number(lines), Text(begin), Text(them)],
+    );
 }
 
 /// A hint at a quote by which no field is quoted.
-pub fn quote_hint(alloc: Global, quote: Option<u8>) -> Result<Option<String>, NoMemory> {
-    let Some(quote) = quote else {
-        return Ok(None);
-    };
-    let quote = char::from(quote);
-    Ok(Some(format!(in alloc;
-        "hint: the quote {quote} was found, and no field is quoted by it; 'quote=' takes it as text"
-    )?))
+fn push_quote(said: &mut Line, quote: u8) {
+    said.next_line();
+    said.push("hint: the quote ");
+    said.push_char(char::from(quote));
+    said.push(" was found, and no field is quoted by it; 'quote=' takes it as text");
 }
 
 /// The first line of a file with these first bytes, without a mark and as far as they go.
-fn first_line(front: &[u8]) -> &[u8] {
+pub fn first_line(front: &[u8]) -> &[u8] {
     let text = front.strip_prefix(MARK).unwrap_or(front);
     match text
         .iter()
@@ -74,7 +64,7 @@ fn unquoted(text: &str) -> &str {
 }
 
 /// Whether a line tells the delimiter to a spreadsheet: `sep=` and one more character.
-fn tells_delimiter(line: &[u8]) -> bool {
+pub fn tells_delimiter(line: &[u8]) -> bool {
     let text = unquoted(str::from_utf8(line).unwrap_or(""));
     match (text.get(..SEPARATOR.len()), text.get(SEPARATOR.len()..)) {
         (Some(begin), Some(rest)) => { begin.eq_ignore_ascii_case(SEPARATOR) && rest.len() == 1 }
@@ -82,16 +72,23 @@ fn tells_delimiter(line: &[u8]) -> bool {
     }
 }
 
-/// A hint at a first line that is no row, in a file with these first bytes.
-pub fn skip_hint(
-    alloc: Global,
-    words: &[String],
-    front: &[u8],
-) -> Result<Option<String>, NoMemory> {
-    if is_given(words, "skip") || !tells_delimiter(first_line(front)) {
-        return Ok(None);
+/// The hints at what was noticed in a file with these first bytes, each on a line. The text that explains what was found has
+/// all but the one at another delimiter itself.
+pub fn push_noticed(said: &mut Line, words: &[String], front: &[u8], noticed: Noticed) {
+    if let Some(delim) = noticed.other_delim {
+        push_delim(said, delim);
     }
-    Ok(Some(format!(in alloc;
-        "hint: line 1 says how the file is written; 'skip=1' passes over it"
-    )?))
+    if gives(words, "explain", "true") {
+        return;
+    }
+    if 0 < noticed.comment_lines && !is_given(words, "comment") {
+        push_comment(said, noticed.comment_lines);
+    }
+    if tells_delimiter(first_line(front)) && !is_given(words, "skip") {
+        said.next_line();
+        said.push("hint: line 1 says how the file is written; 'skip=1' passes over it");
+    }
+    if let Some(quote) = noticed.idle_quote {
+        push_quote(said, quote);
+    }
 }

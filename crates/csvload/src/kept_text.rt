@@ -4,20 +4,20 @@ ghost use Rattle.std.specs.Prelude.{◌≡◌};
 use csv_source::{Failed, Sink};
 use std::alloc::Global;
 
-/// A sink and, where that is wanted, what was written to it.
+/// A sink and the first bytes that were written to it, so many at most.
 #[derive(Drop)]
 pub struct KeptText<K> {
     sink: K,
-    is_kept: bool,
+    most: usize,
     text: Vec<u8>,
 }
 
 impl<K: Sink> KeptText<K> {
     /// A sink to which nothing was written yet.
-    pub fn new(alloc: Global, sink: K, is_kept: bool) -> KeptText<K> {
+    pub fn new(alloc: Global, sink: K, most: usize) -> KeptText<K> {
         KeptText {
             sink,
-            is_kept,
+            most,
             text: Vec::new(alloc),
         }
     }
@@ -32,7 +32,7 @@ impl<K: Sink> KeptText<K> {
         &mut self.sink
     }
 
-    /// What was written, where it is kept.
+    /// What was written, as far as it is kept.
     pub fn text(&self) -> &[u8] {
         &self.text
     }
@@ -45,12 +45,11 @@ impl<K: Sink> Sink for KeptText<K> {
 
     fn write(&mut self, piece: &[u8]) -> Result<usize, Failed> {
         let count = self.sink.write(piece)?;
-        if self.is_kept {
-            // Where memory is wanting, only a line for a person knows less.
-            let _ = self
-                .text
-                .extend_from_slice(piece.get(..count).unwrap_or(piece));
-        }
+        let wanted = self.most.saturating_sub(self.text.len()).min(count);
+        // Where memory is wanting, only a line for a person knows less.
+        let _ = self
+            .text
+            .extend_from_slice(piece.get(..wanted).unwrap_or(piece));
         Ok(count)
     }
 

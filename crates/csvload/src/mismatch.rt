@@ -1,77 +1,68 @@
 // What is said where a file isn't as the words want it.
-use crate::excerpt::shortened;
 use crate::given::{command_word, file_at, subject};
-use crate::glyphs::{Spelling, glyphs_of, text_of};
-use crate::read_fault::subject_of;
-use crate::rejects_call::rejects_call;
-use csv_source::{NoMemory, STANDARD_INPUT};
+use crate::line::Line;
+use crate::line::Part::{Bytes, Name, Number, Subject, Text};
+use crate::rejects_call::push_rejects_call;
+use csv_source::STANDARD_INPUT;
 use report_text::Mismatch;
-use std::alloc::Global;
 use value_types::Names;
 
 /// The most names of columns in a line.
 const COLUMNS_SAID: usize = 20;
 
 /// Names of columns in a line, the first of them where there are many.
-fn columns_said(alloc: Global, names: &Names) -> Result<String, NoMemory> {
-    let mut columns = String::new(alloc);
+fn push_columns(said: &mut Line, names: &Names) {
     for column in 0..names.len().min(COLUMNS_SAID) {
         if column > 0 {
-            columns.push_str(", ")?;
+            said.push(", ");
         }
-        columns.push_str(shortened(alloc, names.get(column))?.as_str())?;
+        said.say("{}", &[Bytes(names.get(column))]);
     }
     if names.len() > COLUMNS_SAID {
-        columns.push_str(", ..")?;
+        said.push(", ..");
     }
-    Ok(columns)
-}
-
-/// That no column has a name, and which names there are.
-fn no_column(alloc: Global, name: &[u8], names: &Names) -> Result<String, NoMemory> {
-    let (name, columns) = (shortened(alloc, name)?, columns_said(alloc, names)?);
-    Ok(format!(in alloc; "no column is named '{name}': the columns are {columns}")?)
-}
-
-/// That a file has another header than the first one.
-fn other_header(
-    alloc: Global,
-    first: &str,
-    file: &[u8],
-    names: &Names,
-) -> Result<String, NoMemory> {
-    let file = text_of(alloc, &glyphs_of(alloc, file, Spelling::Word)?)?;
-    let columns = columns_said(alloc, names)?;
-    Ok(format!(in alloc; "'{file}' hasn't the header of {first}, whose columns are {columns}")?)
 }
 
 /// That there are more faults than wanted, and what lists those of one file that can be read again.
-pub fn too_many_faults(alloc: Global, words: &[String], bound: u64) -> Result<String, NoMemory> {
+pub fn push_too_many_faults(said: &mut Line, words: &[String], bound: u64) {
     let (command, file) = (command_word(words), subject(words));
-    let faults = if bound == 1 { "fault" } else { "faults" };
-    let more = format!(in alloc; "more than {bound} {faults} (max_errors)")?;
     if command == "batch" {
-        return Ok(format!(in alloc; "the files have {more}")?);
+        said.push("the files have");
+    } else {
+        said.say("{} has", &[Subject(file)]);
     }
-    let line = format!(in alloc; "{} has {more}", subject_of(alloc, file)?)?;
-    if command == "rejects" || file == STANDARD_INPUT {
-        return Ok(line);
+    let faults = if bound == 1 { "fault" } else { "faults" };
+    said.say(
+        " more than {} {} (max_errors)",
+        &[Number(bound), Text(faults)],
+    );
+    if command != "batch" && command != "rejects" && file != STANDARD_INPUT {
+        said.push(": ");
+        push_rejects_call(said, words);
     }
-    let call = rejects_call(alloc, words)?;
-    Ok(format!(in alloc; "{line}: {call}")?)
 }
 
 /// That the words don't fit the file.
-pub fn mismatch(alloc: Global, words: &[String], mismatch: &Mismatch) -> Result<String, NoMemory> {
-    let file = file_at(alloc, words, 0)?;
-    let subject = subject_of(alloc, file.as_str())?;
+pub fn push_mismatch(said: &mut Line, words: &[String], mismatch: &Mismatch) {
+    let subject = Subject(file_at(words, 0));
     match mismatch {
-        Mismatch::NoColumn(name, names) => no_column(alloc, name.as_slice(), names),
-        Mismatch::OtherHeader(file, names) => {
-            other_header(alloc, subject.as_str(), file.as_slice(), names)
+        Mismatch::NoColumn(name, names) => {
+            let name = Bytes(name.as_slice());
+            said.say("no column is named '{}': the columns are ", &[name]);
+            push_columns(said, names);
         }
-        Mismatch::TooManyColumns(limit) => Ok(format!(in alloc;
-            "{subject} has more than {limit} columns, the most that a table of SQLite has"
-        )?),
+        Mismatch::OtherHeader(file, names) => {
+            // The words are UTF-8, so each name in them is.
+            let file = str::from_utf8(file.as_slice()).unwrap_or("");
+            said.say(
+                "'{}' hasn't the header of {}, whose columns are ",
+                &[Name(file), subject],
+            );
+            push_columns(said, names);
+        }
+        Mismatch::TooManyColumns(limit) => {
+            let template = "{} has more than {} columns, the most that a table of SQLite has";
+            said.say(template, &[subject, Number(*limit)]);
+        }
     }
 }

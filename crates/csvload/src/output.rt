@@ -1,23 +1,23 @@
 // The file to which the text of status 0 goes.
-use crate::glyphs::shown;
+use crate::line::Line;
+use crate::line::Part::Name;
 use csv_source::{NoMemory, OutputSink};
 use std::alloc::Global;
 use std::fs;
 use std::io::{ErrorKind, Print};
 use std::rt::Files;
 
-/// What SQLite puts behind a database's name for the files that it keeps beside it. It would lay them over a new database.
-const SUFFIXES: [&str; 2] = ["-journal", "-wal"];
-
 /// A file by its names.
 #[derive(Drop)]
 pub struct Output {
     /// The name that it is to have.
-    name: String,
+    name: Line,
     /// The name that it has until it is whole.
-    part: String,
-    /// The names that mustn't be there beside it.
-    beside: Vec<String>,
+    part: Line,
+    /// What SQLite names the files that it keeps beside a database. It would lay them over a new one.
+    journal: Line,
+    log: Line,
+    is_database: bool,
 }
 
 /// Why the file can't be written.
@@ -29,20 +29,41 @@ pub enum Unwritten<'a> {
     Refused(ErrorKind),
 }
 
+/// A name and what stands behind it.
+fn joined(alloc: Global, name: &str, suffix: &str) -> Line {
+    let mut joined = Line::new(alloc);
+    joined.push(name);
+    joined.push(suffix);
+    joined
+}
+
 impl Output {
     /// The file of a name, and of what else it is known by.
     pub fn of_name(alloc: Global, name: &str, is_database: bool) -> Result<Output, NoMemory> {
-        let mut beside = Vec::new(alloc);
-        if is_database {
-            for suffix in SUFFIXES {
-                beside.push(format!(in alloc; "{name}{suffix}")?)?;
-            }
+        let output = Output {
+            name: joined(alloc, name, ""),
+            part: joined(alloc, name, ".part"),
+            journal: joined(alloc, name, "-journal"),
+            log: joined(alloc, name, "-wal"),
+            is_database,
+        };
+        let are_named = output.name.is_whole() && output.part.is_whole();
+        let is_whole = are_named && output.journal.is_whole() && output.log.is_whole();
+        if is_whole { Ok(output) } else { Err(NoMemory) }
+    }
+
+    /// The file that is there beside a database.
+    fn beside<R: Files>(&self, rt: &R) -> Option<&str> {
+        if !self.is_database {
+            return None;
         }
-        Ok(Output {
-            name: String::from_str(alloc, name)?,
-            part: format!(in alloc; "{name}.part")?,
-            beside,
-        })
+        if fs::symlink_metadata(rt, self.journal.text()).is_ok() {
+            return Some(self.journal.text());
+        }
+        if fs::symlink_metadata(rt, self.log.text()).is_ok() {
+            return Some(self.log.text());
+        }
+        None
     }
 
     /// The sink that makes the file, where nothing is in its way.
@@ -50,50 +71,40 @@ impl Output {
         &'a self,
         rt: &'a R,
     ) -> Result<OutputSink<'a, R>, Unwritten<'a>> {
-        for name in &self.beside {
-            if fs::symlink_metadata(rt, name.as_str()).is_ok() {
-                return Err(Unwritten::InUse(name.as_str()));
-            }
+        if let Some(beside) = self.beside(rt) {
+            return Err(Unwritten::InUse(beside));
         }
-        match OutputSink::of_file(rt, self.name.as_str(), self.part.as_str()) {
+        match OutputSink::of_file(rt, self.name.text(), self.part.text()) {
             Ok(sink) => Ok(sink),
             Err(kind) => Err(Unwritten::Refused(kind)),
         }
     }
 
-    /// Why the system refused the file.
-    fn refused(&self, alloc: Global, kind: ErrorKind) -> Result<String, NoMemory> {
-        let (name, part) = (shown(alloc, &self.name)?, shown(alloc, &self.part)?);
-        let line = match kind {
-            ErrorKind::NotFound | ErrorKind::NotADirectory => {
-                format!(in alloc; "'{name}' can't be written: its folder isn't there")?
-            }
-            ErrorKind::IsADirectory => format!(in alloc; "'{name}' is a folder")?,
-            ErrorKind::InvalidInput => format!(in alloc; "'{name}' is no regular file")?,
-            ErrorKind::PermissionDenied | ErrorKind::ReadOnlyFilesystem => {
-                format!(in alloc; "'{name}' may not be written by you")?
-            }
-            ErrorKind::StorageFull | ErrorKind::QuotaExceeded => {
-                format!(in alloc; "'{name}' can't be written: the disk is full")?
-            }
-            ErrorKind::AlreadyExists => format!(in alloc;
-                "'{part}' is there: another run is writing it, or one was ended; without one remove it"
-            )?,
-            _ => format!(in alloc; "'{name}' can't be written")?,
-        };
-        Ok(line)
-    }
-
     /// Why the file can't be written.
-    pub fn unwritten(&self, alloc: Global, why: Unwritten<'_>) -> Result<String, NoMemory> {
-        match why {
+    pub fn push_unwritten(&self, said: &mut Line, why: Unwritten<'_>) {
+        let template = match why {
             Unwritten::InUse(beside) => {
-                let (name, beside) = (shown(alloc, &self.name)?, shown(alloc, beside)?);
-                Ok(format!(in alloc;
-                    "'{beside}' is there: a program has '{name}' open, or ended badly with it"
-                )?)
+                said.say("'{}' is there: a program has ", &[Name(beside)]);
+                "'{}' open, or ended badly with it"
             }
-            Unwritten::Refused(kind) => self.refused(alloc, kind),
-        }
+            Unwritten::Refused(kind) => match kind {
+                ErrorKind::NotFound | ErrorKind::NotADirectory => {
+                    "'{}' can't be written: its folder isn't there"
+                }
+                ErrorKind::IsADirectory => "'{}' is a folder",
+                ErrorKind::InvalidInput => "'{}' is no regular file",
+                ErrorKind::PermissionDenied | ErrorKind::ReadOnlyFilesystem => {
+                    "'{}' may not be written by you"
+                }
+                ErrorKind::StorageFull | ErrorKind::QuotaExceeded => {
+                    "'{}' can't be written: the disk is full"
+                }
+                ErrorKind::AlreadyExists => {
+                    "'{}.part' is there: another run is writing it, or one was ended; without one remove it"
+                }
+                _ => "'{}' can't be written",
+            },
+        };
+        said.say(template, &[Name(self.name.text())]);
     }
 }

@@ -1,10 +1,10 @@
 // Why a file couldn't be read.
-use crate::again::call;
+use crate::again::push_again;
 use crate::given::{command_word, gives};
-use crate::glyphs::shown;
-use crate::shell::shell_list;
-use csv_source::{NoMemory, STANDARD_INPUT};
-use std::alloc::Global;
+use crate::line::Line;
+use crate::line::Part::Subject;
+use crate::shell::{can_be_copied, push_list};
+use csv_source::STANDARD_INPUT;
 use std::fs;
 use std::io::ErrorKind;
 use std::rt::Files;
@@ -41,15 +41,6 @@ fn lack_at<R: Files>(rt: &R, name: &str) -> Lack {
     }
 }
 
-/// A file, or standard input, as the subject of a line.
-pub fn subject_of(alloc: Global, name: &str) -> Result<String, NoMemory> {
-    if name == STANDARD_INPUT {
-        return Ok(format!(in alloc; "standard input")?);
-    }
-    let name = shown(alloc, name)?;
-    Ok(format!(in alloc; "'{name}'")?)
-}
-
 /// Options that `batch` doesn't take as they are given.
 fn not_of_batch(words: &[String]) -> &'static [&'static str] {
     if gives(words, "to", "csv") {
@@ -59,43 +50,33 @@ fn not_of_batch(words: &[String]) -> &'static [&'static str] {
     }
 }
 
-/// The call that reads files whose names stand with commas between, where all of them are there.
-fn several_files<R: Files>(
-    rt: &R,
-    alloc: Global,
-    words: &[String],
-    name: &str,
-) -> Result<Option<String>, NoMemory> {
-    let is_list = command_word(words) != "batch" && name.contains(',');
-    if !is_list || !name.split(',').all(|file| fs::metadata(rt, file).is_ok()) {
-        return Ok(None);
-    }
-    let Some(files) = shell_list(alloc, name, "", "")? else {
-        return Ok(None);
-    };
-    let begin = format!(in alloc; "several files: csvload batch {files}")?;
-    Ok(Some(call(alloc, words, begin.as_str(), not_of_batch(words))?))
+/// Whether a name is those of several files with commas between, which `batch` reads.
+fn names_several<R: Files>(rt: &R, words: &[String], name: &str) -> bool {
+    command_word(words) != "batch"
+        && name.contains(',')
+        && can_be_copied(name)
+        && name.split(',').all(|file| fs::metadata(rt, file).is_ok())
 }
 
 /// Why a file couldn't be read.
-pub fn read_fault<R: Files>(
-    rt: &R,
-    alloc: Global,
-    words: &[String],
-    name: &str,
-) -> Result<String, NoMemory> {
-    let subject = subject_of(alloc, name)?;
-    if name == STANDARD_INPUT {
-        return Ok(format!(in alloc; "{subject} can't be read")?);
-    }
-    let line = match lack_at(rt, name) {
-        Lack::Absent => match several_files(rt, alloc, words, name)? {
-            Some(line) => line,
-            None => format!(in alloc; "{subject} isn't there")?,
-        },
-        Lack::Folder => format!(in alloc; "{subject} is a folder")?,
-        Lack::NoLeave => format!(in alloc; "{subject} may not be read by you")?,
-        Lack::Other => format!(in alloc; "{subject} can't be opened or read")?,
+pub fn push_read_fault<R: Files>(rt: &R, said: &mut Line, words: &[String], name: &str) {
+    let template = if name == STANDARD_INPUT {
+        "{} can't be read"
+    } else {
+        match lack_at(rt, name) {
+            Lack::Absent if names_several(rt, words, name) => {
+                said.push("several files: csvload batch ");
+                push_list(said, name, "", "");
+                return push_again(said, words, not_of_batch(words));
+            }
+            Lack::Absent if command_word(words) == "batch" && name.starts_with(' ') => {
+                "{} isn't there; no space stands behind a comma"
+            }
+            Lack::Absent => "{} isn't there",
+            Lack::Folder => "{} is a folder",
+            Lack::NoLeave => "{} may not be read by you",
+            Lack::Other => "{} can't be opened or read",
+        }
     };
-    Ok(line)
+    said.say(template, &[Subject(name)]);
 }

@@ -1,56 +1,47 @@
 // Why the words are refused.
-use crate::bad_option::bad_option;
-use crate::conflict::conflict;
-use crate::excerpt::shortened;
+use crate::bad_option::push_bad_option;
+use crate::conflict::push_conflict;
 use crate::given::{command_word, name_of, word_giving};
-use crate::value_advice::refused_value;
-use csv_source::NoMemory;
+use crate::line::Line;
+use crate::line::Part::{Text, Word};
+use crate::value_advice::push_refused_value;
 use load_options::{WordFault, WordRule, word_at};
-use std::alloc::Global;
 use std::rt::Files;
 
 /// What is wanted behind a command.
-fn no_file(alloc: Global, command: &str) -> Result<String, NoMemory> {
-    let wanted = match command {
-        "make" => "a number is",
-        "batch" => "names of files are",
-        _ => "a file's name is",
-    };
-    Ok(format!(in alloc; "{wanted} wanted after {command} (see csvload --help)")?)
-}
-
-/// The two words that give one option.
-fn repeated(alloc: Global, words: &[String], word: &str) -> Result<String, NoMemory> {
-    let first = shortened(
-        alloc,
-        word_giving(words, name_of(word)).unwrap_or(word).as_bytes(),
-    )?;
-    let word = shortened(alloc, word.as_bytes())?;
-    Ok(format!(in alloc; "'{word}' gives an option that '{first}' gave before")?)
+fn wanted_behind(command: &str) -> &'static str {
+    match command {
+        "make" => "a number is wanted after {} (see csvload --help)",
+        "batch" => "names of files are wanted after {} (see csvload --help)",
+        _ => "a file's name is wanted after {} (see csvload --help)",
+    }
 }
 
 /// Why the words are refused.
-pub fn refusal<R: Files>(
-    rt: &R,
-    alloc: Global,
-    words: &[String],
-    fault: WordFault,
-) -> Result<String, NoMemory> {
+pub fn push_refusal<R: Files>(rt: &R, said: &mut Line, words: &[String], fault: WordFault) {
     let word = word_at(words, fault.index);
     match fault.rule {
-        WordRule::NoCommand => Ok(format!(in alloc;
-            "a command is wanted: load, summary, convert, rejects, batch, sniff or make (see csvload --help)"
-        )?),
-        WordRule::BadCommand => {
-            let word = shortened(alloc, word.as_bytes())?;
-            Ok(format!(in alloc;
-                "'{word}' is no command: load, summary, convert, rejects, batch, sniff and make are (see csvload --help)"
-            )?)
+        WordRule::NoCommand => said.push(
+            "a command is wanted: load, summary, convert, rejects, batch, sniff or make (see csvload --help)",
+        ),
+        WordRule::BadCommand if word == "-v" => {
+            said.push("'-v' is no command: -V or version is meant");
         }
-        WordRule::NoFile => no_file(alloc, command_word(words)),
-        WordRule::BadOption => bad_option(rt, alloc, words, fault.index),
-        WordRule::BadValue => refused_value(alloc, words, fault.index),
-        WordRule::Repeated => repeated(alloc, words, word),
-        WordRule::Conflict => conflict(alloc, words, word),
+        WordRule::BadCommand => said.say(
+            "'{}' is no command: load, summary, convert, rejects, batch, sniff and make are (see csvload --help)",
+            &[Word(word)],
+        ),
+        WordRule::NoFile => {
+            let command = command_word(words);
+            said.say(wanted_behind(command), &[Text(command)]);
+        }
+        WordRule::BadOption => push_bad_option(rt, said, words, fault.index),
+        WordRule::BadValue => push_refused_value(said, words, fault.index),
+        WordRule::Repeated => {
+            let first = word_giving(words, name_of(word)).unwrap_or(word);
+            let template = "'{}' gives an option that '{}' gave before";
+            said.say(template, &[Word(word), Word(first)]);
+        }
+        WordRule::Conflict => push_conflict(said, words, word),
     }
 }

@@ -1,9 +1,9 @@
 // What lists the faults of a run that had more of them than wanted.
-use crate::again::short_words;
+use crate::again::push_kept;
 use crate::given::subject;
-use crate::shell::shell_file;
-use csv_source::NoMemory;
-use std::alloc::Global;
+use crate::line::Line;
+use crate::line::Part::{File, Text};
+use crate::shell::can_be_copied;
 
 /// Options that `rejects` refuses, or that say how many faults may be, which are kept, and where the text goes. All others
 /// have a say in which faults there are, or in how the work is done.
@@ -17,19 +17,18 @@ const LEFT_OUT: [&str; 7] = [
     "output",
 ];
 
-/// The call where the words can't stand in the line.
-const UNTOLD: &str =
-    "csvload rejects lists them, with the same words but max_errors, to, table and output";
-
 /// The call of `rejects` that lists the faults of a file: without the words other rows might be faulty.
-pub fn rejects_call(alloc: Global, words: &[String]) -> Result<String, NoMemory> {
-    match (
-        shell_file(alloc, subject(words))?,
-        short_words(alloc, words, &LEFT_OUT)?,
-    ) {
-        (Some(file), Some(kept)) => {
-            Ok(format!(in alloc; "csvload rejects {file}{kept} lists them")?)
-        }
-        _ => Ok(String::from_str(alloc, UNTOLD)?),
+pub fn push_rejects_call(said: &mut Line, words: &[String]) {
+    let mut kept = Line::new(said.alloc());
+    push_kept(&mut kept, words, &LEFT_OUT);
+    if kept.is_short() && can_be_copied(subject(words)) {
+        said.say(
+            "csvload rejects {}{} lists them",
+            &[File(subject(words)), Text(kept.text())],
+        );
+    } else {
+        said.push(
+            "csvload rejects lists them, with the same words but max_errors, to, table and output",
+        );
     }
 }

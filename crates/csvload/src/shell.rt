@@ -1,7 +1,7 @@
 // Words as a shell takes them, in commands that may be copied: a file's name comes from whoever made the file.
 use crate::glyphs::is_seen;
-use csv_source::{NoMemory, STANDARD_INPUT};
-use std::alloc::Global;
+use crate::line::Line;
+use csv_source::STANDARD_INPUT;
 
 /// Whether a shell takes a byte of a word as it stands.
 fn is_plain(byte: u8) -> bool {
@@ -13,29 +13,35 @@ fn is_bare(word: &str) -> bool {
     !word.is_empty() && !word.starts_with('=') && word.bytes().all(is_plain)
 }
 
-/// A word as a shell takes it. There is none of a word with characters that aren't seen as they are: what is copied from
-/// the line would be another word.
-pub fn shell_word(alloc: Global, word: &str) -> Result<Option<String>, NoMemory> {
-    if !word.chars().all(is_seen) {
-        return Ok(None);
-    }
-    if is_bare(word) {
-        return Ok(Some(String::from_str(alloc, word)?));
-    }
-    let mut quoted = String::from_str(alloc, "'")?;
-    for character in word.chars() {
-        match character {
-            // No backslash is heard between single quotes, so one of them ends the text before it.
-            '\'' => quoted.push_str("'\\''")?,
-            _ => quoted.push(character)?,
-        }
-    }
-    quoted.push('\'')?;
-    Ok(Some(quoted))
+/// Whether all characters of a word are seen as they are: what is copied from the line would be another word otherwise.
+pub fn can_be_copied(word: &str) -> bool {
+    word.chars().all(is_seen)
 }
 
-/// What stands before a name, so that no program takes it for an option.
-fn folder_of(name: &str) -> &'static str {
+/// A plain text and a word behind it as one word that a shell takes. The line isn't whole where that can't be copied.
+pub fn push_quoted(said: &mut Line, front: &str, word: &str) {
+    if !can_be_copied(word) {
+        said.give_up();
+    }
+    if is_bare(word) {
+        said.push(front);
+        said.push(word);
+        return;
+    }
+    said.push("'");
+    said.push(front);
+    for (place, text) in word.split('\'').enumerate() {
+        // No backslash is heard between single quotes, so one of them ends the text before it.
+        if place > 0 {
+            said.push("'\\''");
+        }
+        said.push(text);
+    }
+    said.push("'");
+}
+
+/// What stands before a file's name, so that no program takes it for an option.
+pub fn folder_of(name: &str) -> &'static str {
     if name != STANDARD_INPUT && name.starts_with('-') {
         "./"
     } else {
@@ -43,39 +49,16 @@ fn folder_of(name: &str) -> &'static str {
     }
 }
 
-/// A file's name as a shell takes it, and no program for an option.
-pub fn shell_file(alloc: Global, name: &str) -> Result<Option<String>, NoMemory> {
-    let folder = folder_of(name);
-    shell_word(alloc, format!(in alloc; "{folder}{name}")?.as_str())
-}
-
-/// Two files as the one word that `batch` takes. There is none of names with commas, at which it would cut them.
-pub fn shell_files(alloc: Global, first: &str, second: &str) -> Result<Option<String>, NoMemory> {
-    if first.contains(',') || second.contains(',') {
-        return Ok(None);
-    }
-    let (folder, other) = (folder_of(first), folder_of(second));
-    shell_word(
-        alloc,
-        format!(in alloc; "{folder}{first},{other}{second}")?.as_str(),
-    )
-}
-
 /// Names of files with commas between, with another text in place of one of them, as the one word that `batch` takes.
-pub fn shell_list(
-    alloc: Global,
-    files: &str,
-    file: &str,
-    other: &str,
-) -> Result<Option<String>, NoMemory> {
-    let mut list = String::new(alloc);
+pub fn push_list(said: &mut Line, files: &str, file: &str, other: &str) {
+    let mut list = Line::new(said.alloc());
     for (place, name) in files.split(',').enumerate() {
         if place > 0 {
-            list.push(',')?;
+            list.push(",");
         }
         let name = if name == file { other } else { name };
-        list.push_str(folder_of(name))?;
-        list.push_str(name)?;
+        list.push(folder_of(name));
+        list.push(name);
     }
-    shell_word(alloc, list.as_str())
+    said.quote(&list);
 }

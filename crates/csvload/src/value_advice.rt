@@ -1,10 +1,10 @@
 // Values that are refused, and what may have been meant.
-use crate::bad_value::bad_value;
+use crate::bad_value::push_bad_value;
 use crate::given::{name_of, value_of};
-use crate::shell::shell_word;
-use csv_source::NoMemory;
+use crate::line::Line;
+use crate::line::Part::Text;
+use crate::shell::can_be_copied;
 use load_options::{option_named, word_at};
-use std::alloc::Global;
 
 /// What stands around names and types in another program's list of them.
 const AROUND: [char; 5] = ['{', '}', '\'', '"', ' '];
@@ -16,65 +16,52 @@ fn is_cut_by_space(words: &[String], index: usize) -> bool {
 }
 
 /// Pairs of a name and a type as `column_types` takes them.
-fn pairs(alloc: Global, value: &str) -> Result<String, NoMemory> {
-    let mut pairs = String::new(alloc);
-    for (place, pair) in value.split(',').enumerate() {
-        if place > 0 {
-            pairs.push(',')?;
-        }
+fn push_pairs(said: &mut Line, value: &str) {
+    let mut pairs = Line::new(said.alloc());
+    let mut before = "column_types=";
+    for pair in value.split(',') {
         let (name, ty) = pair.rsplit_once(':').unwrap_or((pair, ""));
-        pairs.push_str(name.trim_matches(AROUND))?;
-        pairs.push(':')?;
-        pairs.push_str(ty.trim_matches(AROUND))?;
+        let (name, ty) = (name.trim_matches(AROUND), ty.trim_matches(AROUND));
+        pairs.say("{}{}:{}", &[Text(before), Text(name), Text(ty)]);
+        before = ",";
     }
-    Ok(pairs)
+    said.quote(&pairs);
 }
 
-/// What is said of types in place of the first that is none.
-fn types_meant(alloc: Global, words: &[String], index: usize) -> Result<Option<String>, NoMemory> {
+/// What is said of types in place of the first that is none, and whether that is so.
+fn push_types_meant(said: &mut Line, words: &[String], index: usize) -> bool {
     let value = value_of(word_at(words, index));
-    if value.contains(':') {
-        let pairs = pairs(alloc, value)?;
-        let word = shell_word(alloc, format!(in alloc; "column_types={pairs}")?.as_str())?;
-        return match word {
-            Some(word) => Ok(Some(format!(in alloc; "types has no names: {word}")?)),
-            None => Ok(None),
-        };
+    if value.contains(':') && can_be_copied(value) {
+        said.push("types has no names: ");
+        push_pairs(said, value);
+        return true;
     }
-    if value.contains(", ") || is_cut_by_space(words, index) {
-        return Ok(Some(format!(in alloc; "no space stands behind a comma")?));
+    let has_space = value.contains(", ") || is_cut_by_space(words, index);
+    if has_space && !value.contains(':') {
+        said.push("no space stands behind a comma");
+        return true;
     }
-    Ok(None)
+    false
 }
 
 /// What is said behind why a value is refused.
-fn advice(alloc: Global, word: &str) -> Result<Option<String>, NoMemory> {
+fn push_advice(said: &mut Line, word: &str) {
     let (name, value) = (name_of(word), value_of(word));
     if option_named(name.as_bytes()) == b"delim".as_slice() && value.is_empty() {
-        let line = format!(in alloc; "a shell takes ; and | for its own: '{name}=;'")?;
-        return Ok(Some(line));
+        said.say("; a shell takes ; and | for its own: '{}=;'", &[Text(name)]);
+    } else if name == "to" && value.contains(['.', '/']) && can_be_copied(value) {
+        said.push("; ");
+        said.quoted("output={}", &[Text(value)]);
+        said.push(" names the file");
     }
-    if name == "to" && value.contains(['.', '/']) {
-        let word = shell_word(alloc, format!(in alloc; "output={value}")?.as_str())?;
-        return match word {
-            Some(word) => Ok(Some(format!(in alloc; "{word} names the file")?)),
-            None => Ok(None),
-        };
-    }
-    Ok(None)
 }
 
 /// Why a value is refused, and what may have been meant.
-pub fn refused_value(alloc: Global, words: &[String], index: usize) -> Result<String, NoMemory> {
+pub fn push_refused_value(said: &mut Line, words: &[String], index: usize) {
     let word = word_at(words, index);
-    if option_named(name_of(word).as_bytes()) == b"types".as_slice()
-        && let Some(line) = types_meant(alloc, words, index)?
-    {
-        return Ok(line);
-    }
-    let why = bad_value(alloc, words, index)?;
-    match advice(alloc, word)? {
-        Some(advice) => Ok(format!(in alloc; "{why}; {advice}")?),
-        None => Ok(why),
+    let is_types = option_named(name_of(word).as_bytes()) == b"types".as_slice();
+    if !is_types || !push_types_meant(said, words, index) {
+        push_bad_value(said, words, index);
+        push_advice(said, word);
     }
 }
