@@ -42,10 +42,10 @@ fn push_quotes(said: &mut Line, value: &str) {
     }
 }
 
-/// Whether two lines may be headers, and differ.
+/// Whether two lines may be headers, and differ. One that begins with `#` may be no row.
 fn differ(first: &[u8], other: &[u8]) -> bool {
     let is_quoted = first.contains(&b'"') || other.contains(&b'"');
-    first != other && !is_quoted && !tells_delimiter(first)
+    first != other && !is_quoted && !tells_delimiter(first) && !first.starts_with(b"#")
 }
 
 /// The first file of a batch that begins with another header than the first one.

@@ -1,5 +1,5 @@
 -- Several files with one more.
-use Rattle.std.proofs.Common.{◌≡◌, ℕ, zero, suc, ◌+◌, ◌<◌, ◌||◌, Bool, true, false, cond, List, [], ◌∷◌, ◌++◌, map, length, Option, None, Some, refl, sym, ap, ◌∙◌, arith, append-nil, subst, drop}
+use Rattle.std.proofs.Common.{◌≡◌, ℕ, zero, suc, ◌+◌, ◌<◌, ◌||◌, Bool, true, false, cond, List, [], ◌∷◌, ◌++◌, map, length, None, Some, refl, sym, ap, ◌∙◌, arith, append-nil, subst}
 use Rattle.std.specs.Prelude.{flat_map, slice_get, sum, All}
 use Rattle.std.proofs.lemmas.List.{map-append}
 use Rattle.std.proofs.lemmas.List.Concat.{flat_map-append}
@@ -23,6 +23,7 @@ use Rattle.loader_reply.specs.declared.loading.LoadedData.{LoadedData}
 use Rattle.loader_reply.specs.Batch.{readings_from, books_of, batch_of, batch_error, both_stats, file_stats, batch_stats, load_of, other_header_in, unless_error, unless_headed_otherwise, CanJoin, HasFiles, IsPrintableFiles, no_files, with_load}
 use Rattle.loader_reply.specs.Loading.{is_headed_otherwise, IsFileLoad, IsLaterLoad}
 use Rattle.loader_reply.specs.Reading.{file_reading, table_rows, faults, keep_of, ending_error}
+use Rattle.loader_reply.specs.SoFar.{other_so_far, IsNextLoad, IsSoFarLoad}
 use Rattle.loader_reply.proofs.Printing.{IsRowOf, file_prints}
 
 -- ---- the readings
@@ -98,27 +99,11 @@ other_later o s (n ∷ names) (i ∷ inputs) name input same is =
       by_test comes true here = absurd (let wrong : ⊥ = cc in wrong)
       by_test comes false later = comes later
 
--- the later ones of some files begin with another header
-abbrev other_so_far : Options → Sniffed → List (List ℕ) → List (List ℕ) → Option (List ℕ)
-other_so_far o s names inputs = other_header_in o s (drop 1 names) (drop 1 inputs)
-
 -- ---- one more file
-
--- what a file comes to: the first one's header is its own
-abbrev pub IsNextLoad : Options → Sniffed → ℕ → List ℕ → FileLoad → Type 0
-IsNextLoad o s zero input load = IsFileLoad o s 0 input load
-IsNextLoad o s (suc n) input load = IsLaterLoad o s (suc n) input load
 
 pub later_is_next : (o : Options) (s : Sniffed) (n : ℕ) (input : List ℕ) (load : FileLoad) → 0 < n → IsLaterLoad o s n input load → IsNextLoad o s n input load
 later_is_next o s zero input load there is = absurd (let wrong : ⊥ = omega (arith, there) in wrong)
 later_is_next o s (suc n) input load there is = is
-
--- all of the files so far, or the first error where it ends the load, or the first one that begins with another header
-abbrev pub IsSoFarLoad : Options → Sniffed → List (List ℕ) → List (List ℕ) → Load → Type 0
-IsSoFarLoad o s names inputs (loads.Whole batch stats) =
-    (other_so_far o s names inputs ≡ None) × (batch_error o s inputs ≡ None) × (batch ≡ batch_of o s names inputs) × (stats ≡ batch_stats o s inputs)
-IsSoFarLoad o s names inputs (loads.FirstError reject) = (other_so_far o s names inputs ≡ None) × (batch_error o s inputs ≡ Some reject)
-IsSoFarLoad o s names inputs (loads.OtherHeader name) = other_so_far o s names inputs ≡ Some name
 
 pub none_loaded : (o : Options) (s : Sniffed) → IsSoFarLoad o s [] [] (no_files s.types)
 none_loaded o s = (refl, no_error (o.ignore_errors || o.store_rejects), refl, refl)

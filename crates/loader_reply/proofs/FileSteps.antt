@@ -1,6 +1,5 @@
 -- Files, as they are read one after another.
 use Rattle.std.proofs.Common.{◌≡◌, ◌⊎◌, inl, inr, ℕ, ◌+◌, ◌<◌, ◌≤◌, cond, List, [], ◌∷◌, ◌++◌, map, length, take, drop, Option, None, Some, IfSome, refl, sym, ap, ◌∙◌, subst, arith, append_assoc, append-nil, length-append, length-take}
-use Rattle.std.specs.Prelude.{⊤}
 use Rattle.std.specs.List.{filter_map}
 use Rattle.std.proofs.lemmas.Bool.{le-ltb, lt-ltb}
 use Rattle.std.proofs.lemmas.List.{length-map, map-append, take_all, drop_all}
@@ -13,33 +12,11 @@ use Rattle.report_text.specs.declared.outcome.Outcome.TheVariants as outcomes
 use Rattle.loader_reply.specs.declared.batch.Load.{Load}
 use Rattle.loader_reply.specs.declared.loading.FileLoad.{FileLoad}
 use Rattle.loader_reply.specs.Batch.{found_in_first, batch_refusal, last_read, load_of, no_files, with_load, AreOpened, AreRead, CanJoin, HasFiles, IsLoadOf, IsOver, IsPrintableFiles, IsReadWhole, IsReadOver, LacksOne}
-use Rattle.loader_reply.specs.Loading.{IsInput}
-use Rattle.loader_reply.proofs.Batches.{IsNextLoad, IsSoFarLoad, none_loaded, one_more, can_join, is_load_of, has_files, all_print}
-
-abbrev pub Told : Type 0
-Told = Option (List (List ℕ × List ℕ))
+use Rattle.loader_reply.specs.Loading.{IsFileLoad, IsInput, IsLaterLoad}
+use Rattle.loader_reply.specs.SoFar.{AreOf, AreShort, AreSoFar, IsFoundIn, IsNextLoad, IsSoFar, LeavesNone, ReadsNext, Told}
+use Rattle.loader_reply.proofs.Batches.{later_is_next, none_loaded, one_more, can_join, is_load_of, has_files, all_print}
 
 -- ---- what came of the files that were read
-
--- none is over the limit
-abbrev pub AreShort : ℕ → List (List ℕ) → Type 0
-AreShort limit [] = ⊤
-AreShort limit (input ∷ inputs) = (length input ≤ limit) × AreShort limit inputs
-
--- the files are these, where they are told
-abbrev pub AreOf : Told → List (List ℕ) → List (List ℕ) → Type 0
-AreOf None names inputs = ⊤
-AreOf (Some files) names inputs = map (file_of files) names ≡ map (λ input. Some input) inputs
-
--- nothing is left, where files are told
-abbrev pub LeavesNone : Told → Option (List ℕ) → Type 0
-LeavesNone None left = ⊤
-LeavesNone (Some files) left = left ≡ Some []
-
--- what was found was found in the first
-abbrev pub IsFoundIn : Options → Sniffed → List (List ℕ) → Type 0
-IsFoundIn o s [] = ⊤
-IsFoundIn o s (input ∷ inputs) = s ≡ found o input
 
 pub short-more : (limit : ℕ) (inputs : List (List ℕ)) (input : List ℕ) → AreShort limit inputs → length input ≤ limit → AreShort limit (inputs ++ input ∷ [])
 short-more limit [] input short one = (one, tt)
@@ -104,14 +81,6 @@ over_last limit (first ∷ (other ∷ inputs)) input later short over =
     ∙ over_last limit (other ∷ inputs) input later short.1 over
 
 -- ---- how far the reading has come
-
-pub record AreSoFar (limit : ℕ) (held : Told) (all later : List (List ℕ)) : Type 0 where
-  pub names : List (List ℕ)
-  pub inputs : List (List ℕ)
-  pub split : all ≡ names ++ later
-  pub as_many : length names ≡ length inputs
-  pub short : AreShort limit inputs
-  pub of : AreOf held names inputs
 
 pub of_none : (held : Told) → AreOf held [] []
 of_none None = tt
@@ -204,19 +173,10 @@ module _ (limit : ℕ) (held : Told) (all : List (List ℕ)) (is : AreSoFar limi
 
 -- ---- with what they come to
 
-pub record IsSoFar (o : Options) (s : Sniffed) (held : Told) (all later : List (List ℕ)) (number : ℕ) (load : Load) : Type 0 where
-  pub read : AreSoFar o.max_input held all later
-  pub numbered : number ≡ length read.inputs
-  pub found_in : IsFoundIn o s read.inputs
-  pub loads : IsSoFarLoad o s read.names read.inputs load
-
 pub none_so_far : (o : Options) (s : Sniffed) (held : Told) (all : List (List ℕ)) → IsSoFar o s held all all 0 (no_files s.types)
 none_so_far o s held all = record { read = none_read o.max_input held all; numbered = refl; found_in = tt; loads = none_loaded o s }
 
 module _ (o : Options) (s : Sniffed) (held : Told) (all : List (List ℕ)) (name : List ℕ) (later : List (List ℕ)) (number : ℕ) (load : Load) (is : IsSoFar o s held all (name ∷ later) number load) (left : Option (List ℕ)) where
-  pub may_join : (file : FileLoad) → IsReadWhole o.max_input held name left (λ input. IsNextLoad o s number input file) → CanJoin load file
-  may_join file read = can_join o s is.read.names is.read.inputs read.0 number load file is.loads read.3
-
   pub next_file : (file : FileLoad) (read : IsReadWhole o.max_input held name left (λ input. IsNextLoad o s number input file)) → (number ≡ 0 → s ≡ found o read.0) →
       IsSoFar o s held all later (number + 1) (with_load load name file)
   next_file file read first = record {
@@ -225,6 +185,31 @@ module _ (o : Options) (s : Sniffed) (held : Told) (all : List (List ℕ)) (name
     found_in = found-more o s is.read.inputs read.0 is.found_in (λ none. first (is.numbered ∙ none));
     loads = one_more o s name read.0 is.read.names is.read.inputs load file is.read.as_many is.loads (subst (λ n. IsNextLoad o s n read.0 file) is.numbered read.3);
   }
+
+-- one file as it was read
+module _ (o : Options) (s : Sniffed) (held : Told) (name : List ℕ) (left : Option (List ℕ)) (file : FileLoad) where
+  pub first_joins : IsReadWhole o.max_input held name left (λ input. (s ≡ found o input) × IsFileLoad o s 0 input file) → CanJoin (no_files s.types) file
+  first_joins read = can_join o s [] [] read.0 0 (no_files s.types) file (none_loaded o s) read.3.1
+
+  pub reads_first : IsReadWhole o.max_input held name left (λ input. (s ≡ found o input) × IsFileLoad o s 0 input file) →
+      ReadsNext o s held name 0 (no_files s.types) (with_load (no_files s.types) name file) left
+  reads_first read = (
+    λ all later so_far. next_file o s held all name later 0 (no_files s.types) so_far left file (read.0, read.1, read.2, read.3.1) (λ zero. read.3.0),
+    (one_read o.max_input held name read.0 left read.1 read.2).1,
+  )
+
+  module _ (number : ℕ) (there : 0 < number) (load : Load) (read : IsReadWhole o.max_input held name left (λ input. IsLaterLoad o s number input file)) where
+    abbrev next : IsReadWhole o.max_input held name left (λ input. IsNextLoad o s number input file)
+    next = (read.0, read.1, read.2, later_is_next o s number read.0 file there read.3)
+
+    pub later_joins : (all later : List (List ℕ)) → IsSoFar o s held all (name ∷ later) number load → CanJoin load file
+    later_joins all later so_far = can_join o s so_far.read.names so_far.read.inputs read.0 number load file so_far.loads next.3
+
+    pub reads_later : ReadsNext o s held name number load (with_load load name file) left
+    reads_later = (
+      λ all later so_far. next_file o s held all name later number load so_far left file next (λ zero. absurd (let wrong : ⊥ = omega (arith, zero, there) in wrong)),
+      (one_read o.max_input held name read.0 left read.1 read.2).1,
+    )
 
 module _ (o : Options) (s : Sniffed) (held : Told) (all : List (List ℕ)) (number : ℕ) (load : Load) (is : IsSoFar o s held all [] number load) where
   found_first : (inputs : List (List ℕ)) → IsFoundIn o s inputs → 0 < length inputs → s ≡ found_in_first o inputs

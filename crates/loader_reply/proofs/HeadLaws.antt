@@ -16,7 +16,8 @@ use Rattle.csv_sniffer.specs.Input.{found, data_place, has_same_header, place_un
 use Rattle.csv_sniffer.proofs.StartSteps.{behind_line-le, no_line, without_mark-le}
 use Rattle.report_text.specs.declared.outcome.Outcome.TheVariants as outcomes
 use Rattle.loader_reply.specs.Loading.{GoesBehindSample}
-use Rattle.loader_reply.specs.Reply.{no_column, sniffed_outcome}
+use Rattle.loader_reply.specs.Fitting.{no_column}
+use Rattle.loader_reply.specs.Reply.{sniffed_outcome}
 
 append-cond : (t : Bool) (xs ys more : List ℕ) → cond t (xs ++ more) (ys ++ more) ≡ cond t xs ys ++ more
 append-cond true xs ys more = refl

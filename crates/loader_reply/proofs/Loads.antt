@@ -1,13 +1,11 @@
 -- The reading of the data, against what the input comes to.
 use Rattle.std.proofs.Common.{◌≡◌, ℕ, ◌+◌, Bool, true, false, ◌||◌, cond, List, [], map, take, drop, None, Some, refl, sym, ap, ◌∙◌, subst}
-use Rattle.std.specs.Prelude.{not, slice_get, ◌==◌, option_map}
+use Rattle.std.specs.Prelude.{not, slice_get, option_map}
 use Rattle.std.proofs.lemmas.Option.{slice_get-map}
 use Rattle.byte_classes.specs.LineEnds.{line_ends}
 use Rattle.load_options.specs.declared.options.Options.{Options}
 use Rattle.csv_sniffer.specs.declared.found.Sniffed.{Sniffed}
 use Rattle.csv_sniffer.specs.Input.{place_under}
-use Rattle.reject_book.specs.declared.book.Keep.{Keep}
-use Rattle.reject_book.specs.declared.book.Keep.TheVariants.{All as keeps_all, First}
 use Rattle.reject_book.specs.declared.reject.Reject.{Reject}
 use Rattle.reject_book.specs.Kept.{book_of, joined, raised}
 use Rattle.reject_book.proofs.KeptFronts.{joined_is_book}
@@ -15,11 +13,12 @@ use Rattle.range_scan.specs.declared.context.Context.{Context}
 use Rattle.range_scan.specs.Scanned.{HasColumns}
 use Rattle.window_load.specs.DataRead.{data_part as part_of_data, IsDataRead, IsWindowRead}
 use Rattle.window_load.specs.declared.data_read.DataRead.{DataRead}
+use Rattle.window_load.specs.declared.data_read.WindowRead.{WindowRead}
 use Rattle.window_load.specs.declared.data_read.WindowRead.TheVariants.{All, Stopped}
 use Rattle.loader_reply.specs.declared.loading.FileLoad.TheVariants.{Whole, FirstError}
 use Rattle.loader_reply.specs.declared.loading.LoadedData.{LoadedData}
 use Rattle.loader_reply.specs.Laws.{AreOfPart, data_part}
-use Rattle.loader_reply.specs.Loading.{IsFileLoad, IsRaised, context_of, stops_at_error}
+use Rattle.loader_reply.specs.Loading.{IsFileLoad, IsRaised, KeepsAs, context_of, stops_at_error}
 use Rattle.loader_reply.specs.Reading.{schema_of, file_reading, faults, stats_of}
 use Rattle.loader_reply.proofs.GroupReading.{reading_is_of_part}
 
@@ -33,22 +32,15 @@ the_error : (b : Bool) (rejects : List Reject) (r : Reject) → not b ≡ true �
 the_error true rejects r stops is = absurd (let wrong : ⊥ = cc in wrong)
 the_error false rejects r stops is = is
 
-kept_if : (store ignore : Bool) (limit : Keep) → not (ignore || store) ≡ true → cond store limit (cond ignore (First 0) (First 1)) ≡ First 1
-kept_if true true limit stops = absurd (let wrong : ⊥ = cc in wrong)
-kept_if true false limit stops = absurd (let wrong : ⊥ = cc in wrong)
-kept_if false true limit stops = absurd (let wrong : ⊥ = cc in wrong)
-kept_if false false limit stops = refl
-
--- where the first error ends the load it is all that is kept
-pub keeps_first : (o : Options) (s : Sniffed) (file_id : ℕ) (context : Context) (stop : Bool) → context ≡ context_of o s file_id → stop ≡ stops_at_error o → stop ≡ true → context.keep ≡ First 1
-keeps_first o s file_id context stop is_context is_stop stops =
-    ap (λ (c : Context). c.keep) is_context
-    ∙ kept_if o.store_rejects o.ignore_errors (cond (o.rejects_limit == 0) keeps_all (First o.rejects_limit)) (sym is_stop ∙ stops)
-
 -- ---- the columns
 
 pub has_columns : (o : Options) (s : Sniffed) (file_id : ℕ) (context : Context) → HasColumns (schema_of o s) → context ≡ context_of o s file_id → HasColumns context.schema
 has_columns o s file_id context columns is_context = subst (λ (c : Context). HasColumns c.schema) (sym is_context) columns
+
+-- the rejects of what was read are kept as the context says
+pub keeps_as : (context : Context) (text : List ℕ) (start size : ℕ) (stop : Bool) (read : WindowRead) → IsWindowRead context text start size stop read → KeepsAs context.keep read
+keeps_as context text start size stop (All got) is = ap (λ b. b.keep) is.0.book
+keeps_as context text start size stop (Stopped first) is = tt
 
 -- ---- the verdicts of the input are those of the bytes that are read
 

@@ -1,6 +1,6 @@
 -- Where the type of each column is given by its name, files are answered as under these types in a list.
-use Rattle.std.proofs.Common.{◌≡◌, ℕ, List, [], ◌∷◌, cond, map, drop, None, Some, refl, sym, ap, ◌∙◌}
-use Rattle.std.specs.Option.{option_map}
+use Rattle.std.proofs.Common.{◌≡◌, ℕ, List, [], ◌∷◌, map, drop, Option, None, Some, refl, sym, ap, ◌∙◌}
+use Rattle.std.specs.Option.{option_map, option_or}
 use Rattle.value_types.specs.declared.types.ColumnType.{ColumnType}
 use Rattle.load_options.specs.declared.options.Options.{Options}
 use Rattle.load_options.specs.Accepted.{IsAccepted}
@@ -11,8 +11,8 @@ use Rattle.csv_sniffer.specs.NamedTypes.{missing_name, type_given}
 use Rattle.csv_sniffer.specs.Sample.{start_of_sample, sample_of, is_whole}
 use Rattle.csv_sniffer.specs.declared.found.Sniffed.{Sniffed}
 use Rattle.csv_sniffer.proofs.NamedLaws.{named_as_listed}
-use Rattle.report_text.specs.BatchReport.{all_in}
-use Rattle.report_text.specs.declared.outcome.Mismatch.TheVariants.{NoColumn, TooManyColumns}
+use Rattle.report_text.specs.declared.outcome.Mismatch.TheVariants.{NoColumn}
+use Rattle.report_text.specs.declared.outcome.Outcome.{Outcome}
 use Rattle.report_text.specs.declared.outcome.Outcome.TheVariants as outcomes
 use Rattle.report_text.specs.declared.outcome.Stats.{Stats}
 use Rattle.file_list.specs.BatchView.{BatchView}
@@ -20,11 +20,10 @@ use Rattle.loader_reply.specs.declared.answering.Answer.{Answer}
 use Rattle.loader_reply.specs.declared.answering.Answer.TheVariants as answers
 use Rattle.loader_reply.specs.declared.batch.Load.{Load}
 use Rattle.loader_reply.specs.declared.batch.Load.TheVariants as loads
-use Rattle.loader_reply.specs.declared.database.TheConstants.{COLUMN_LIMIT}
 use Rattle.loader_reply.specs.Batch.{found_in_first, load_of}
-use Rattle.loader_reply.specs.Fitting.{is_unfit, passed_bound}
+use Rattle.loader_reply.specs.Fitting.{too_many_columns, too_many_faults}
 use Rattle.loader_reply.specs.Laws.{NamedHasSameReply}
-use Rattle.loader_reply.specs.Reply.{fitting_reply, load_reply, or_too_many, outcome_reply, unless_refused, whole_or_error, whole_reply}
+use Rattle.loader_reply.specs.Reply.{load_reply, unless_refused, whole_or_error, whole_reply}
 
 module _ (o : Options) (types : List ColumnType) (s : Sniffed) (taps : List Seen) where
   whole_alike : (answer : Answer) (batch : BatchView) (stats : Stats) → whole_reply answer (listed o types) s taps batch stats ≡ whole_reply answer o s taps batch stats
@@ -36,16 +35,15 @@ module _ (o : Options) (types : List ColumnType) (s : Sniffed) (taps : List Seen
   whole_alike answers.Batch batch stats = refl
 
   answered_alike : (answer : Answer) (load : Load) → whole_or_error answer (listed o types) s taps load ≡ whole_or_error answer o s taps load
-  answered_alike answer (loads.Whole batch stats) = ap (λ r. or_too_many r (passed_bound o.max_errors (all_in batch.files))) (whole_alike answer batch stats)
+  answered_alike answer (loads.Whole batch stats) = whole_alike answer batch stats
   answered_alike answer (loads.FirstError reject) = refl
   answered_alike answer (loads.OtherHeader file) = refl
 
-  fitting_alike : (answer : Answer) (load : Load) → fitting_reply answer (listed o types) s taps load ≡ fitting_reply answer o s taps load
-  fitting_alike answer load = ap (λ r. cond (is_unfit answer s) (outcome_reply (outcomes.Mismatch (TooManyColumns COLUMN_LIMIT))) r) (answered_alike answer load)
-
   loaded_alike : (answer : Answer) (load : Load) → missing_name o.column_types s.names ≡ None → load_reply answer (listed o types) s taps load ≡ load_reply answer o s taps load
   loaded_alike answer load none =
-      fitting_alike answer load ∙ ap (λ name. unless_refused (fitting_reply answer o s taps load) (option_map (λ n. outcomes.Mismatch (NoColumn n s.names)) name)) (sym none)
+      let others : Option Outcome = option_or (too_many_columns answer s) (too_many_faults o.max_errors load) in
+      ap (λ r. unless_refused r others) (answered_alike answer load)
+      ∙ ap (λ name. unless_refused (whole_or_error answer o s taps load) (option_or (option_map (λ n. outcomes.Mismatch (NoColumn n s.names)) name) others)) (sym none)
 
 listed_is_found : (o : Options) (input : List ℕ) (types : List ColumnType) → IsAccepted o → map (type_given o.column_types) (found o input).names ≡ map Some types →
     (found (listed o types) input).header ≡ (found o input).header → found (listed o types) input ≡ found o input

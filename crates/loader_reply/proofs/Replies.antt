@@ -1,6 +1,8 @@
 -- A reply, against what came of the files as they were opened.
 use Rattle.std.proofs.Common.{◌≡◌, ◌⊎◌, ℕ, Bool, true, false, cond, List, [], ◌∷◌, Option, None, Some, Ok, Err, refl, sym, ap, ◌∙◌, subst, inl, inr}
-use Rattle.std.specs.Prelude.{option_map, unwrap_or}
+use Rattle.std.specs.Prelude.{option_map, unwrap_or, ◌&&◌}
+use Rattle.std.specs.Bool.{then_some}
+use Rattle.std.specs.Option.{option_or}
 use Rattle.std.specs.List.{filter_map}
 use Rattle.csv_source.specs.Causes.{Rose}
 use Rattle.load_options.specs.declared.options.Command.{Command}
@@ -33,11 +35,13 @@ use Rattle.loader_reply.specs.declared.batch.Load.{Load}
 use Rattle.loader_reply.specs.declared.batch.Load.TheVariants as loads
 use Rattle.loader_reply.specs.declared.database.TheConstants.{COLUMN_LIMIT}
 use Rattle.loader_reply.specs.declared.ending.Ending.TheVariants as endings
-use Rattle.loader_reply.specs.Batch.{batch_refusal, found_in_first, load_of, AreRead, IsLoadOf, IsOver, IsReadWhole, LacksOne}
+use Rattle.loader_reply.specs.Batch.{batch_refusal, load_of, AreRead, IsLoadOf, IsOver, IsReadWhole, LacksOne}
 use Rattle.loader_reply.specs.Replying.{IsAnswer, IsReplyBy, IsReplyTo, IsStopReply, input_limit}
-use Rattle.loader_reply.specs.Fitting.{is_unfit, passed_bound}
-use Rattle.loader_reply.specs.Reply.{Reply, reply, outcome_reply, bounded_reply, fitting_reply, in_format, inputs_reply, load_reply, loaded_of, no_column, without_spare, opened_reply, or_too_many, request_reply, command_names, sniffed_outcome, sniffed_reply, unless_refused, whole_or_error, whole_reply, words_names, words_reply}
-use Rattle.loader_reply.proofs.FileSteps.{Told, all_read, none_left, none_read, one_more_read}
+use Rattle.loader_reply.specs.Databases.{is_too_wide}
+use Rattle.loader_reply.specs.Fitting.{is_database, passed_bound, refusal, too_many_columns, too_many_faults}
+use Rattle.loader_reply.specs.Reply.{Reply, reply, outcome_reply, in_format, inputs_reply, load_reply, loaded_of, without_spare, opened_reply, request_reply, command_names, sniffed_outcome, sniffed_reply, unless_refused, whole_or_error, whole_reply, words_names, words_reply}
+use Rattle.loader_reply.specs.SoFar.{Told}
+use Rattle.loader_reply.proofs.FileSteps.{all_read, none_left, none_read, one_more_read}
 
 -- ---- the reply to a load is an answer
 
@@ -49,27 +53,32 @@ whole_answers answers.Rejects o s taps batch stats = refl
 whole_answers answers.Database o s taps batch stats = refl
 whole_answers answers.Batch o s taps batch stats = refl
 
--- a name that no column has
-missing_answers : (o : Options) (s : Sniffed) (r : Reply) → IsAnswer r.status → IsAnswer (unless_refused r (no_column o s)).status
-missing_answers o s r is = by_name (missing_name o.column_types s.names) where
-  by_name : (name : Option (List ℕ)) → IsAnswer (unless_refused r (option_map (λ name. outcomes.Mismatch (NoColumn name s.names)) name)).status
-  by_name None = is
+refusal_answers : (answer : Answer) (o : Options) (s : Sniffed) (load : Load) (r : Reply) → IsAnswer r.status → IsAnswer (unless_refused r (refusal answer o s load)).status
+refusal_answers answer o s load r is = by_name (missing_name o.column_types s.names) where
+  by_bound : (bound : Option ℕ) → IsAnswer (unless_refused r (option_map (λ n. outcomes.TooManyFaults n) bound)).status
+  by_bound None = is
+  by_bound (Some bound) = inr (inr (inr (inr (inr refl))))
+
+  by_load : (l : Load) → IsAnswer (unless_refused r (too_many_faults o.max_errors l)).status
+  by_load (loads.Whole batch stats) = by_bound (passed_bound o.max_errors (all_in batch.files))
+  by_load (loads.FirstError reject) = is
+  by_load (loads.OtherHeader file) = is
+
+  by_width : (t : Bool) → IsAnswer (unless_refused r (option_or (then_some t (outcomes.Mismatch (TooManyColumns COLUMN_LIMIT))) (too_many_faults o.max_errors load))).status
+  by_width true = inr (inr (inr (inl refl)))
+  by_width false = by_load load
+
+  by_name : (name : Option (List ℕ)) →
+      IsAnswer (unless_refused r (option_or (option_map (λ n. outcomes.Mismatch (NoColumn n s.names)) name) (option_or (too_many_columns answer s) (too_many_faults o.max_errors load)))).status
+  by_name None = by_width (is_database answer && is_too_wide s)
   by_name (Some name) = inr (inr (inr (inl refl)))
 
 load_answers : (answer : Answer) (o : Options) (s : Sniffed) (taps : List Seen) (load : Load) → IsAnswer (load_reply answer o s taps load).status
-load_answers answer o s taps load = missing_answers o s (fitting_reply answer o s taps load) (by_width (is_unfit answer s)) where
-  by_bound : (whole : Reply) → whole.status ≡ 0 → (bound : Option ℕ) → IsAnswer (or_too_many whole bound).status
-  by_bound whole is None = inl is
-  by_bound whole is (Some bound) = inr (inr (inr (inr (inr refl))))
-
+load_answers answer o s taps load = refusal_answers answer o s load (whole_or_error answer o s taps load) (by_load load) where
   by_load : (l : Load) → IsAnswer (whole_or_error answer o s taps l).status
-  by_load (loads.Whole batch stats) = by_bound (whole_reply answer o s taps batch stats) (whole_answers answer o s taps batch stats) (passed_bound o.max_errors (all_in batch.files))
+  by_load (loads.Whole batch stats) = inl (whole_answers answer o s taps batch stats)
   by_load (loads.FirstError reject) = inr (inr (inl refl))
   by_load (loads.OtherHeader file) = inr (inr (inr (inl refl)))
-
-  by_width : (t : Bool) → IsAnswer (cond t (outcome_reply (outcomes.Mismatch (TooManyColumns COLUMN_LIMIT))) (whole_or_error answer o s taps load)).status
-  by_width true = inr (inr (inr (inl refl)))
-  by_width false = by_load load
 
 -- ---- what came of the files
 

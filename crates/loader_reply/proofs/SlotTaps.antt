@@ -1,7 +1,6 @@
 -- What the taps have seen that were put into slots.
 use Rattle.std.proofs.Common.{◌≡◌, List, [], ◌∷◌, map, refl, sym, ap, ◌∙◌, subst}
 use Rattle.std.specs.Prelude.{All}
-use Rattle.std.proofs.lemmas.List.Elements.{All-map}
 use Rattle.std.proofs.lemmas.Simd.{map-map}
 use Rattle.column_taps.specs.declared.slot.Slot.{Slot}
 use Rattle.column_taps.specs.declared.slot.Slot.TheVariants.{Live, Over}
@@ -40,8 +39,5 @@ module _ {D : Type 0} {H : D → Type 0} (seen : (d : D) → H d → Seen) where
     pub taps_in : seen_in seen slots ≡ map view taps
     taps_in = seen_is slots (map view taps) (same ∙ sym (map-map going view taps))
 
-    pub are_new : All (λ tap. IsFresh (view tap)) taps → AreNew seen slots
-    are_new fresh = (
-      same ∙ sym (map-map going view taps) ∙ ap (map going) (sym taps_in),
-      subst (All IsFresh) (sym taps_in) (All-map IsFresh view taps fresh),
-    )
+    pub are_new : All IsFresh (map view taps) → AreNew seen slots
+    are_new fresh = (same ∙ sym (map-map going view taps) ∙ ap (map going) (sym taps_in), subst (All IsFresh) (sym taps_in) fresh)

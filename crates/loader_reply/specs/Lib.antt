@@ -9,3 +9,4 @@ pub mod Reply
 pub mod Replying
 pub mod ReplyText
 pub mod Showing
+pub mod SoFar

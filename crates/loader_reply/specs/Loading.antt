@@ -6,9 +6,12 @@ use Rattle.csv_sniffer.specs.declared.finding.Finding.{Finding}
 use Rattle.csv_sniffer.specs.declared.found.Sniffed.{Sniffed}
 use Rattle.csv_sniffer.specs.Input.{place_under, found, data_place, has_same_header}
 use Rattle.reject_book.specs.declared.book.Keep.{Keep}
-use Rattle.reject_book.specs.Kept.{book_of, joined}
+use Rattle.reject_book.specs.Kept.{book_of, joined, raised}
 use Rattle.range_scan.specs.declared.context.Context.{Context}
+use Rattle.window_load.specs.DataRead.{IsWindowRead}
 use Rattle.window_load.specs.declared.data_read.DataRead.{DataRead}
+use Rattle.window_load.specs.declared.data_read.WindowRead.{WindowRead}
+use Rattle.window_load.specs.declared.data_read.WindowRead.TheVariants.{All, Stopped}
 use Rattle.loader_reply.specs.declared.sniffed_head.SniffedHead.{SniffedHead}
 use Rattle.loader_reply.specs.declared.loading.FileLoad.{FileLoad}
 use Rattle.loader_reply.specs.declared.loading.FileLoad.TheVariants.{Whole, FirstError, OtherHeader}
@@ -59,6 +62,22 @@ pub record IsRaised (keep : Keep) (lines : ℕ) (read : DataRead) (loaded : Load
   pub table : loaded.table ≡ read.table
   pub book : loaded.book ≡ joined lines (book_of keep []) read.book
   pub stats : loaded.stats ≡ record { ranges = read.ranges; rescans = read.rescans; scanned = read.length + read.rescanned }
+
+-- the rejects of what was read are kept so
+abbrev pub KeepsAs : Keep → WindowRead → Type 0
+KeepsAs keep (All read) = read.book.keep ≡ keep
+KeepsAs keep (Stopped first) = ⊤
+
+-- what the data of a file come to by what was read of them
+abbrev pub IsRaisedRead : Keep → ℕ → WindowRead → FileLoad → Type 0
+IsRaisedRead keep lines (All read) (Whole loaded) = IsRaised keep lines read loaded
+IsRaisedRead keep lines (Stopped first) (FirstError reject) = reject ≡ raised lines first
+IsRaisedRead keep lines (All read) (FirstError reject) = ⊥
+IsRaisedRead keep lines (Stopped first) (Whole loaded) = ⊥
+IsRaisedRead keep lines read OtherHeader = ⊥
+
+abbrev pub LoadsUnder : Context → ℕ → ℕ → ℕ → Bool → List ℕ → FileLoad → Type 0
+LoadsUnder context lines start size stop input load = (read : WindowRead) × IsWindowRead context (drop start input) start size stop read × IsRaisedRead context.keep lines read load
 
 -- ---- the head of an input, which is read before the sample is looked at
 

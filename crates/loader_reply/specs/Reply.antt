@@ -1,5 +1,5 @@
 -- The reply to words: an ending with its status, and a text (this loader's profile).
-use Rattle.std.specs.Prelude.{◌≡◌, ℕ, if◌then◌else◌, List, [], ◌∷◌, map, option_map, Option, Some, None, unwrap_or, Result, Ok, Err, String, string_bytes, Bool, true, false}
+use Rattle.std.specs.Prelude.{◌≡◌, ℕ, if◌then◌else◌, List, [], ◌∷◌, map, option_map, Option, Some, None, unwrap_or, Result, Ok, Err, String, string_bytes, false}
 use Rattle.std.specs.Bool.{then_some}
 use Rattle.std.specs.List.{filter_map}
 use Rattle.std.specs.declared.alloc.Global.{Global}
@@ -16,7 +16,6 @@ use Rattle.load_options.specs.Texts.{word_at}
 use Rattle.csv_sniffer.specs.Explanation.{explanation}
 use Rattle.csv_sniffer.specs.Input.{found}
 use Rattle.csv_sniffer.specs.declared.found.Sniffed.{Sniffed}
-use Rattle.csv_sniffer.specs.NamedTypes.{missing_name}
 use Rattle.reject_book.specs.Kept.{book_of}
 use Rattle.file_list.specs.declared.batch.FileBook.{FileBook}
 use Rattle.file_list.specs.BatchView.{BatchView}
@@ -26,7 +25,7 @@ use Rattle.report_text.specs.MadeText.{made_text}
 use Rattle.report_text.specs.Printable.{IsPrintable}
 use Rattle.report_text.specs.Report.{has_rows, report_of}
 use Rattle.report_text.specs.declared.outcome.Loaded.{Loaded}
-use Rattle.report_text.specs.declared.outcome.Mismatch.TheVariants.{NoColumn, OtherHeader, TooManyColumns}
+use Rattle.report_text.specs.declared.outcome.Mismatch.TheVariants.{OtherHeader}
 use Rattle.report_text.specs.declared.outcome.Outcome.{Outcome}
 use Rattle.report_text.specs.declared.outcome.Outcome.TheVariants as outcomes
 use Rattle.report_text.specs.declared.outcome.Stats.{Stats}
@@ -35,7 +34,7 @@ use Rattle.reject_writer.specs.WrittenRejects.{written_rejects}
 use Rattle.db_writer.specs.Database.{database}
 use Rattle.loader_reply.specs.Batch.{batch_refusal, found_in_first, load_of}
 use Rattle.loader_reply.specs.Databases.{stored_files}
-use Rattle.loader_reply.specs.Fitting.{is_unfit, passed_bound}
+use Rattle.loader_reply.specs.Fitting.{no_column, refusal}
 use Rattle.loader_reply.specs.Ending.{ending_code, ending_of}
 use Rattle.loader_reply.specs.Reading.{keep_of}
 use Rattle.loader_reply.specs.Showing.{tap_lines}
@@ -43,7 +42,6 @@ use Rattle.loader_reply.specs.declared.answering.Answer.{Answer}
 use Rattle.loader_reply.specs.declared.answering.Answer.TheVariants as answers
 use Rattle.loader_reply.specs.declared.batch.Load.{Load as FilesLoad}
 use Rattle.loader_reply.specs.declared.batch.Load.TheVariants as loads
-use Rattle.loader_reply.specs.declared.database.TheConstants.{COLUMN_LIMIT}
 use Rattle.loader_reply.specs.declared.ending.Ending.{Ending}
 use Rattle.loader_reply.specs.declared.ending.Ending.TheVariants as endings
 
@@ -118,35 +116,14 @@ abbrev pub unless_refused : Reply → Option Outcome → Reply
 unless_refused r None = r
 unless_refused r (Some outcome) = outcome_reply outcome
 
--- the outcome where the type of a column is given that isn't there
-abbrev pub no_column : Options → Sniffed → Option Outcome
-no_column o s = option_map (λ name. outcomes.Mismatch (NoColumn name s.names)) (missing_name o.column_types s.names)
-
--- this reply, unless there are more faults than a bound
-abbrev pub or_too_many : Reply → Option ℕ → Reply
-or_too_many r None = r
-or_too_many r (Some bound) = outcome_reply (outcomes.TooManyFaults bound)
-
-abbrev pub bounded_reply : Answer → Options → Sniffed → List Seen → BatchView → Stats → Reply
-bounded_reply answer o s taps batch stats = or_too_many (whole_reply answer o s taps batch stats) (passed_bound o.max_errors (all_in batch.files))
-
--- the outcome where a file of that name begins with another header than the first one
-abbrev pub other_header : Sniffed → List ℕ → Outcome
-other_header s file = outcomes.Mismatch (OtherHeader file s.names)
-
 -- all of it, or the first error, or a file that begins with another header
 abbrev pub whole_or_error : Answer → Options → Sniffed → List Seen → FilesLoad → Reply
-whole_or_error answer o s taps (loads.Whole batch stats) = bounded_reply answer o s taps batch stats
+whole_or_error answer o s taps (loads.Whole batch stats) = whole_reply answer o s taps batch stats
 whole_or_error answer o s taps (loads.FirstError reject) = outcome_reply (outcomes.FirstError s reject)
-whole_or_error answer o s taps (loads.OtherHeader file) = outcome_reply (other_header s file)
+whole_or_error answer o s taps (loads.OtherHeader file) = outcome_reply (outcomes.Mismatch (OtherHeader file s.names))
 
-abbrev pub fitting_reply : Answer → Options → Sniffed → List Seen → FilesLoad → Reply
-fitting_reply answer o s taps load =
-    if is_unfit answer s then outcome_reply (outcomes.Mismatch (TooManyColumns COLUMN_LIMIT)) else whole_or_error answer o s taps load
-
--- the names of columns come first
 abbrev pub load_reply : Answer → Options → Sniffed → List Seen → FilesLoad → Reply
-load_reply answer o s taps load = unless_refused (fitting_reply answer o s taps load) (no_column o s)
+load_reply answer o s taps load = unless_refused (whole_or_error answer o s taps load) (refusal answer o s load)
 
 -- the answer with a database in its place, where one is wanted
 abbrev pub in_format : Options → Answer → Answer
@@ -154,10 +131,13 @@ in_format o answer = if is_sqlite o.to then answers.Database else answer
 
 -- ---- the reply to inputs, each within its limit
 
--- what `sniff` tells of an input: that a column isn't there, or what is found, and why where that is asked for
+-- what was found in an input, and why where that is asked for
+abbrev pub told : Options → Sniffed → List ℕ → Outcome
+told o s input = if o.explain then outcomes.Explained s (explanation o input s) else outcomes.Sniffed s
+
+-- what `sniff` tells of an input: that a column isn't there, or what is found
 abbrev pub sniffed_outcome : Options → List ℕ → Outcome
-sniffed_outcome o input = let s = found o input in
-    unwrap_or (no_column o s) (if o.explain then outcomes.Explained s (explanation o input s) else outcomes.Sniffed s)
+sniffed_outcome o input = let s = found o input in unwrap_or (no_column o s) (told o s input)
 
 -- the reply of `sniff`, by the first
 abbrev pub sniffed_reply : Options → List (List ℕ) → Reply

@@ -2,12 +2,11 @@
 ghost use Rattle.load_options.specs.Accepted.{IsAccepted};
 ghost use Rattle.std.specs.Prelude.{◌≡◌, ◌≤◌, ◌∷◌, [], false, true, length, map, All, IfOk};
 ghost use Rattle.column_taps.specs.Seen.{IsFresh};
-ghost use Rattle.csv_writer.specs.Writable.{IsWritableRow};
 ghost use Rattle.std.specs.Bool.{then_some};
 ghost use Rattle.report_text.specs.Printable.{IsPrintableBatch, IsPrintableLoad};
 ghost use Rattle.report_text.specs.declared.outcome.Outcome.TheVariants as outcomes;
-ghost use Rattle.value_types.specs.OfType.{fit_all};
-ghost use Rattle.loader_reply.specs.Fitting.{is_of_one};
+ghost use Rattle.loader_reply.specs.Fitting.{is_of_one, IsAnswerable};
+ghost use Rattle.loader_reply.specs.declared.batch.Load.TheVariants as loads;
 ghost use Rattle.loader_reply.specs.Reply.{in_format, inputs_reply, loaded_of, opened_reply, sniffed_reply, summary_reply, whole_reply, without_spare, written_reply};
 ghost use Rattle.loader_reply.specs.Batch.{names_of};
 ghost use Rattle.loader_reply.specs.Replying.{IsReplyBy, IsStopReply};
@@ -27,11 +26,10 @@ use load_options::is_sqlite;
 use report_text::{Loaded, Outcome, Stats, all_in, render_batch, render_loaded};
 use std::sync::Wait;
 use std::thread::Threads;
-use text_pieces::Workers;
 use window_load::LoadStop;
 
 /// How a load is answered.
-#[derive(Clone, Copy, Debug, PartialEq, Eq)]
+#[derive(Clone, Copy)]
 pub enum Answer {
     /// By the report of the only file.
     Loaded,
@@ -54,17 +52,6 @@ impl<'a, R: Threads + Sync, G> Loader<'a, R, G> {
         ensures { IfOk result (λ r. r ≡ outcome_reply outcome) }
     {
         Reply::report(self.alloc, outcome)
-    }
-
-    /// Who makes the rows of a text.
-    fn workers(&self) -> Workers<'a, R>
-        ensures { result.threads ≡ self.now.options.now.threads }
-    {
-        Workers {
-            rt: self.rt,
-            alloc: self.alloc,
-            threads: self.options.threads,
-        }
     }
 
     /// The reply where the reading of files stopped.
@@ -97,11 +84,17 @@ impl<'a, R: Threads + Sync, G> Loader<'a, R, G> {
     /// The reply with the report of a loaded file, whose rows are shown to taps.
     fn summary_reply(&self, loaded: Loaded, taps: Vec<Box<dyn RowTap>>) -> Result<Reply, NoMemory>
         requires printable { IsPrintableLoad loaded }
-        requires fresh { All (λ tap. IsFresh (seen tap)) taps.items }
+        requires fresh { All IsFresh (map seen taps.items) }
         ensures ok { IfOk result (λ r. r ≡ summary_reply loaded (map seen taps.items)) }
     {
-        let lines = tap_lines(self.alloc, &loaded.table, taps)?;
-        self.report(Outcome::Summary(loaded, Bytes::from_vec(lines)))
+        match tap_lines(self.alloc, &loaded.table, taps) {
+            Ok(lines) => self.report(Outcome::Summary(loaded, Bytes::from_vec(lines))),
+            Err(NoMemory) => {
+                // As one value, as in `Ending::of`.
+                drop(loaded);
+                Err(NoMemory)
+            }
+        }
     }
 
     /// The reply with the report of a loaded file, rows and all.
@@ -159,18 +152,31 @@ impl<'a, R: Threads + Sync, G> Loader<'a, R, G> {
         taps: Vec<Box<dyn RowTap>>,
     ) -> Result<Reply, NoMemory>
         requires accepted { IsAccepted self.now.options.now }
-        requires one { is_of_one answer ≡ true → length batch.files ≡ 1 }
-        requires printable { IsPrintableBatch sniffed batch }
-        requires fresh { All (λ tap. IsFresh (seen tap)) taps.items }
+        requires answerable { IsAnswerable answer sniffed (loads.Whole batch stats) (map seen taps.items) }
         ensures ok { IfOk result (λ r. r ≡ whole_reply answer self.now.options.now sniffed (map seen taps.items) batch stats) }
     {
         match answer {
             Answer::Loaded => self.loaded_report(self.loaded_of(sniffed, batch, stats)),
             Answer::Summary => self.summary_reply(self.loaded_of(sniffed, batch, stats), taps),
-            Answer::Written => self.written_reply(&sniffed, batch),
-            Answer::Rejects => self.rejects_reply(&sniffed, batch),
-            Answer::Database => self.database_reply(&sniffed, &batch),
             Answer::Batch => self.batch_report(sniffed, batch, stats),
+            Answer::Written => {
+                let reply = self.written_reply(&sniffed, batch);
+                // As one value, as in `Ending::of`.
+                drop(sniffed);
+                reply
+            }
+            Answer::Rejects => {
+                let reply = self.rejects_reply(&sniffed, &batch);
+                drop(sniffed);
+                drop(batch);
+                reply
+            }
+            Answer::Database => {
+                let reply = self.database_reply(&sniffed, &batch);
+                drop(sniffed);
+                drop(batch);
+                reply
+            }
         }
     }
 
@@ -213,7 +219,7 @@ impl<'a, R: Threads + Wait + Sync, G: Gate> Loader<'a, R, G> {
     ) -> Result<Reply, NoMemory>
         requires accepted { IsAccepted self.now.options.now }
         requires one { is_of_one answer ≡ true → several ≡ false }
-        requires fresh { All (λ tap. IsFresh (seen tap)) taps.items }
+        requires fresh { All IsFresh (map seen taps.items) }
         ensures ok { let o = self.now.options.now in let names = names_of several word.now in
             IfOk result (IsReplyBy o.max_input (opened_reply (inputs_reply answer o names (map seen taps.items)) o.max_input) names
             (S.held source.old) (S.left source.new) (S.faults source.old) (S.faults source.new)) }
@@ -221,7 +227,7 @@ impl<'a, R: Threads + Wait + Sync, G: Gate> Loader<'a, R, G> {
         ensures count { S.faults source.old ≤ S.faults source.new }
     {
         match self.load_files(word, several, source) {
-            Ok((sniffed, load)) => self.load_reply(answer, sniffed, load, taps),
+            Ok(files) => self.load_reply(answer, files, taps),
             Err(stop) => self.stopped_reply(stop),
         }
     }

@@ -12,7 +12,7 @@ ghost use Rattle.csv_sniffer.specs.Input.{found};
 ghost use Rattle.loader_reply.specs.Batch.{IsOpened, IsReadWhole, IsReadOver};
 ghost use Rattle.loader_reply.specs.Loading.{is_headed_otherwise, IsHead, GoesBehindSample, IsFileLoad, IsLaterLoad};
 ghost use Rattle.loader_reply.specs.Reading.{schema_of};
-ghost use Rattle.loader_reply.specs.Reply.{IsShort, sniffed_outcome};
+ghost use Rattle.loader_reply.specs.Reply.{IsShort, sniffed_outcome, told};
 
 use crate::loader::Loader;
 use crate::loading::FileLoad;
@@ -99,16 +99,38 @@ impl<'a, R, G> Loader<'a, R, G> {
         ensures ok { IfOk result (λ outcome. outcome ≡ sniffed_outcome self.now.options.now input.now) }
         ensures short { IfOk result IsShort }
     {
-        let finding = sniff_input(self.alloc, self.options, input)?;
-        let sniffed = finding.sniffed;
-        if let Some(outcome) = self.no_column(&sniffed)? {
-            return Ok(outcome);
+        let Finding { sniffed, .. } = sniff_input(self.alloc, self.options, input)?;
+        match self.no_column(&sniffed) {
+            Ok(None) => self.told(sniffed, input),
+            Ok(Some(outcome)) => {
+                // As one value, as in `Ending::of`.
+                drop(sniffed);
+                Ok(outcome)
+            }
+            Err(NoMemory) => {
+                drop(sniffed);
+                Err(NoMemory)
+            }
         }
+    }
+
+    /// What was found in an input, and why where that is asked for.
+    fn told(&self, sniffed: Sniffed, input: &[u8]) -> Result<Outcome, NoMemory>
+        requires columns { length sniffed.names ≡ length sniffed.types }
+        requires accepted { IsAccepted self.now.options.now }
+        ensures ok { IfOk result (λ outcome. outcome ≡ told self.now.options.now sniffed input.now) }
+        ensures short { IfOk result IsShort }
+    {
         if !self.options.explain {
             return Ok(Outcome::Sniffed(sniffed));
         }
-        let explanation = explain(self.alloc, self.options, input, &sniffed)?;
-        Ok(Outcome::Explained(sniffed, explanation))
+        match explain(self.alloc, self.options, input, &sniffed) {
+            Ok(explanation) => Ok(Outcome::Explained(sniffed, explanation)),
+            Err(NoMemory) => {
+                drop(sniffed);
+                Err(NoMemory)
+            }
+        }
     }
 
     /// What `sniff` tells of a file. What stands behind its head is read and dropped.
@@ -136,8 +158,8 @@ impl<'a, R, G> Loader<'a, R, G> {
 }
 
 impl<'a, R: Threads + Wait + Sync, G: Gate> Loader<'a, R, G> {
-    /// Loads the first file: what is found in it, and what its data come to under it.
-    pub fn load_first<S: Source + Send>(
+    /// Reads the first file: what is found in it, and what its data come to under it.
+    pub fn read_first<S: Source + Send>(
         &self,
         name: &str,
         source: &mut S,
@@ -159,8 +181,13 @@ impl<'a, R: Threads + Wait + Sync, G: Gate> Loader<'a, R, G> {
             sniffed,
             data_start,
         } = finding;
-        let load = self.load_data(&sniffed, 0, head, data_start, source)?;
-        Ok((sniffed, load))
+        match self.load_data(&sniffed, 0, head, data_start, source) {
+            Ok(load) => Ok((sniffed, load)),
+            Err(stop) => {
+                drop(sniffed);
+                Err(stop)
+            }
+        }
     }
 
     /// Loads a later file of a number: its data under what was found in the first one, unless it begins with another header.

@@ -19,6 +19,7 @@ mod rejects;
 mod reply;
 mod reply_text;
 mod replying;
+mod several;
 mod showing;
 mod sniffed_head;
 mod status;

@@ -1,6 +1,6 @@
 // The load of the data.
 ghost use Rattle.load_options.specs.Accepted.{IsAccepted};
-ghost use Rattle.std.specs.Prelude.{◌≡◌, ◌+◌, ◌≤◌, ◌^◌, true, length, drop, IfOk, Err};
+ghost use Rattle.std.specs.Prelude.{◌≡◌, ◌+◌, ◌≤◌, ◌^◌, true, length, drop, take, None, IfOk, Err};
 ghost use Rattle.std.specs.Io.KnownBytes.{IsAtEnd};
 ghost use Rattle.csv_source.specs.Causes.{Rose};
 ghost use Rattle.load_options.specs.declared.limits.TheConstants.{MAX_LINE_SIZE};
@@ -10,7 +10,8 @@ ghost use Rattle.reject_book.specs.declared.book.Keep.TheVariants.{First as firs
 ghost use Rattle.window_load.specs.DataRead.{ComesWhole, ComesOver, IsWindowRead};
 ghost use Rattle.window_load.specs.declared.stop.LoadStop.TheVariants as stops;
 ghost use Rattle.csv_sniffer.specs.Input.{place_under};
-ghost use Rattle.loader_reply.specs.Loading.{IsHead, IsFileLoad, IsRaised, stops_at_error};
+ghost use Rattle.loader_reply.specs.Loading.{stops_at_error, IsFileLoad, IsHead, IsRaised, IsRaisedRead, KeepsAs, LoadsUnder};
+ghost use Rattle.byte_classes.specs.LineEnds.{line_ends};
 ghost use Rattle.loader_reply.specs.Reading.{schema_of};
 
 use crate::context::context_of;
@@ -98,6 +99,17 @@ fn loaded_data(
     })
 }
 
+/// What the data of a file come to by what was read of them, behind the line ends before them.
+fn file_load(alloc: Global, keep: Keep, read: WindowRead, lines: u64) -> Result<FileLoad, NoMemory>
+    requires same { KeepsAs keep read }
+    ensures ok { IfOk result (IsRaisedRead keep lines read) }
+{
+    match read {
+        WindowRead::All(read) => Ok(FileLoad::Whole(loaded_data(alloc, keep, read, lines)?)),
+        WindowRead::Stopped(reject) => Ok(FileLoad::FirstError(raised(reject, lines)?)),
+    }
+}
+
 impl<'a, R: Threads + Wait + Sync, G: Gate> Loader<'a, R, G> {
     /// Reads the data in windows, or where `pipeline` says so while stages scan what came of them.
     fn read_data<S: Source + Send>(
@@ -161,19 +173,45 @@ impl<'a, R: Threads + Wait + Sync, G: Gate> Loader<'a, R, G> {
         ensures held { S.held source.new ≡ S.held source.old }
         ensures count { S.faults source.old ≤ S.faults source.new }
     {
-        let context = context_of(self.alloc, self.options, sniffed, file_id)?;
+        match context_of(self.alloc, self.options, sniffed, file_id) {
+            Ok(context) => {
+                let load = self.load_under(&context, head, start, source);
+                // As one value, as in `Ending::of`.
+                drop(context);
+                load
+            }
+            Err(NoMemory) => {
+                drop(head);
+                Err(LoadStop::NoMemory)
+            }
+        }
+    }
+
+    /// Loads the data that begin at `start` with what their rows are scanned by.
+    fn load_under<S: Source + Send>(
+        &self,
+        context: &Context,
+        head: InputWindow,
+        start: usize,
+        source: &mut S,
+    ) -> Result<FileLoad, LoadStop>
+        requires accepted { IsAccepted self.now.options.now }
+        requires head { IsHead self.now.options.now.skip self.now.options.now.max_input head }
+        requires within { start ≤ length head.kept }
+        requires at_end { head.ended ≡ true → IsAtEnd (S.left source.old) }
+        requires line { context.now.schema.max_line_size ≤ MAX_LINE_SIZE.most }
+        requires fits { HasColumns context.now.schema }
+        requires keep { stops_at_error self.now.options.now ≡ true → context.now.keep ≡ first_of 1 }
+        ensures ok { let o = self.now.options.now in IfOk result (λ load. ComesWhole (S.left source.old) (S.left source.new) head
+            (λ input. LoadsUnder context.now (line_ends None (take start head.kept)) start o.range_size (stops_at_error o) input load)) }
+        ensures too_large { result ≡ Err stops.TooLarge → ComesOver (S.left source.old) (S.left source.new) head }
+        ensures failed { result ≡ Err stops.Failed → Rose (S.faults source.old) (S.faults source.new) }
+        ensures held { S.held source.new ≡ S.held source.old }
+        ensures count { S.faults source.old ≤ S.faults source.new }
+    {
         let lines = count_line_ends(&head.bytes()[..start], None);
         let stop = stops_at_error(self.options);
-        let read = self.read_data(&context, head, start, source, stop)?;
-        let keep = context.keep;
-        // As one value and before the last exits, as in `Ending::of`.
-        drop(context);
-        match read {
-            WindowRead::All(read) => {
-                let loaded = loaded_data(self.alloc, keep, read, lines)?;
-                Ok(FileLoad::Whole(loaded))
-            }
-            WindowRead::Stopped(reject) => Ok(FileLoad::FirstError(raised(reject, lines)?)),
-        }
+        let read = self.read_data(context, head, start, source, stop)?;
+        Ok(file_load(self.alloc, context.keep, read, lines)?)
     }
 }

@@ -14,13 +14,12 @@ use report_text::all_in;
 
 impl<'a, R, G> Loader<'a, R, G> {
     /// The reply with the stored rejects of the only file.
-    pub fn rejects_reply(&self, sniffed: &Sniffed, batch: Batch) -> Result<Reply, NoMemory>
-        requires one { length batch.files ≡ 1 }
-        ensures ok { IfOk result (λ r. r ≡ rejects_reply self.now.options.now sniffed.now batch) }
+    pub fn rejects_reply(&self, sniffed: &Sniffed, batch: &Batch) -> Result<Reply, NoMemory>
+        requires one { length batch.now.files ≡ 1 }
+        ensures ok { IfOk result (λ r. r ≡ rejects_reply self.now.options.now sniffed.now batch.now) }
     {
-        let faults = all_in(&batch)?;
-        let (_table, file) = batch.into_only();
-        let text = write_rejects(self.alloc, &file.book)?;
+        let faults = all_in(batch)?;
+        let text = write_rejects(self.alloc, batch.book(0))?;
         Ok(Reply::new(
             Ending::Answered(faults, Some(sniffed.noticed)),
             ReplyText::Whole(text),

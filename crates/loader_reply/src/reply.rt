@@ -1,7 +1,7 @@
 // The reply to words: how the run ends, and a text.
 ghost use Rattle.std.specs.Prelude.{◌≡◌, ◌≤◌, IfOk};
 ghost use Rattle.loader_reply.specs.Reply.{IsShort, outcome_reply, reply};
-ghost use Rattle.loader_reply.specs.Ending.{ending_code};
+ghost use Rattle.loader_reply.specs.Ending.{ending_code, ending_of};
 ghost use Rattle.loader_reply.specs.Replying.{IsEndingOf, IsWritten};
 ghost use Rattle.loader_reply.specs.ReplyText.{text_of};
 
@@ -12,6 +12,7 @@ use report_text::{Outcome, render};
 use std::alloc::Global;
 use std::marker::Model;
 use std::thread::Threads;
+use text_pieces::Pieces;
 
 /// How a run ends, where its text is written whole, and that text.
 #[derive(Drop)]
@@ -43,9 +44,24 @@ impl Reply {
         requires { IsShort outcome }
         ensures { IfOk result (λ r. r ≡ outcome_reply outcome) }
     {
-        let text = render(alloc, &outcome);
-        let ending = Ending::of(outcome);
-        Ok(Reply::new(ending?, ReplyText::Whole(text?)))
+        match render(alloc, &outcome) {
+            Ok(text) => Reply::told(outcome, text),
+            Err(NoMemory) => {
+                // As one value, as in `Ending::of`.
+                drop(outcome);
+                Err(NoMemory)
+            }
+        }
+    }
+
+    /// The ending that goes with an outcome, with a text.
+    fn told(outcome: Outcome, text: Pieces) -> Result<Reply, NoMemory>
+        ensures { IfOk result (λ r. r ≡ reply (ending_of outcome) text) }
+    {
+        match Ending::of(outcome) {
+            Ok(ending) => Ok(Reply::new(ending, ReplyText::Whole(text))),
+            Err(NoMemory) => Err(NoMemory),
+        }
     }
 
     /// Writes the text, and answers how the run ended: as this reply says, or with a write fault. The sink is told before

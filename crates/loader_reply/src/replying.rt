@@ -59,7 +59,7 @@ impl<'a, R: Threads + Wait + Sync, G: Gate> Loader<'a, R, G> {
         requires accepted { IsAccepted self.now.options.now }
         requires same { self.now.options.now ≡ request.now.options }
         requires rows { request.now.rows ≤ ROW_LIMIT }
-        requires fresh { All (λ tap. IsFresh (seen tap)) taps.items }
+        requires fresh { All IsFresh (map seen taps.items) }
         ensures ok { let command = request.now.command in
             IfOk result (IsReplyBy request.now.options.max_input (request_reply command request.now word.now (map seen taps.items)) (command_names command word.now)
             (S.held source.old) (S.left source.new) (S.faults source.old) (S.faults source.new)) }
@@ -105,14 +105,16 @@ pub fn reply_to<R: Threads + Wait + Sync, S: Source + Send, G: Gate>(
 {
     match parse_words(alloc, words) {
         Ok(request) => {
-            let options = &request.options;
             let loader = Loader {
                 rt,
                 alloc,
-                options,
+                options: &request.options,
                 gate,
             };
-            loader.reply_to_request(&request, word_at(words, 1), source, taps)
+            let reply = loader.reply_to_request(&request, word_at(words, 1), source, taps);
+            // As one value, as in `Ending::of`.
+            drop(request);
+            reply
         }
         Err(WordStop::Fault(fault)) => reply_to_refused(alloc, words, fault),
         Err(WordStop::NoMemory) => Err(NoMemory),

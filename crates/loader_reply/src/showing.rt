@@ -87,7 +87,7 @@ pub fn tap_lines(
     taps: Vec<Box<dyn RowTap>>,
 ) -> Result<Vec<u8>, NoMemory>
     requires fits { All (λ cells. fit_all table.now.types cells ≡ true) table.now.rows }
-    requires fresh { All (λ tap. IsFresh (seen tap)) taps.items }
+    requires fresh { All IsFresh (map seen taps.items) }
     ensures ok { IfOk result (λ lines. lines.items ≡ tap_lines (map seen taps.items) table.now.rows) }
 {
     let mut slots = slots_of(alloc, taps)?;

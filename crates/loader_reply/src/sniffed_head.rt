@@ -1,5 +1,5 @@
 // The head of an input, in whose sample something is found while what comes behind it is read.
-ghost use Rattle.std.specs.Prelude.{◌≡◌, ◌+◌, ◌≤◌, true, false, length, IfOk, IsTrue, Err};
+ghost use Rattle.std.specs.Prelude.{◌≡◌, ◌+◌, ◌≤◌, true, false, length, IfOk, IsTrue, Err, Ok};
 ghost use Rattle.std.specs.Io.KnownBytes.{IsAtEnd};
 ghost use Rattle.csv_source.specs.Causes.{Rose};
 ghost use Rattle.csv_source.specs.Moves.{MovesFront};
@@ -7,7 +7,7 @@ ghost use Rattle.load_options.specs.Accepted.{IsAccepted};
 ghost use Rattle.range_scan.specs.Scanned.{HasColumns};
 ghost use Rattle.window_load.specs.DataRead.{ComesOver};
 ghost use Rattle.window_load.specs.Groups.{group_reach};
-ghost use Rattle.window_load.specs.Window.{reach, fill_limit, IsFilled};
+ghost use Rattle.window_load.specs.Window.{reach, fill_limit};
 ghost use Rattle.window_load.specs.declared.stop.LoadStop.TheVariants as stops;
 ghost use Rattle.loader_reply.specs.Loading.{IsHead, IsFinding, IsSniffedHead};
 ghost use Rattle.loader_reply.specs.Reading.{schema_of};
@@ -42,6 +42,16 @@ fn sniff_kept(alloc: Global, options: &Options, head: &InputWindow) -> Result<Fi
     ensures columns { IfOk result (λ finding. HasColumns (schema_of options.now finding.sniffed)) }
 {
     sniff_input(alloc, options, head.bytes())
+}
+
+/// A head with what was found in it.
+fn found_in(head: InputWindow, found: Result<Finding, NoMemory>) -> Result<SniffedHead, NoMemory>
+    ensures ok { IfOk result (λ read. (found ≡ Ok read.finding) × (read.head ≡ head)) }
+{
+    match found {
+        Ok(finding) => Ok(SniffedHead { finding, head }),
+        Err(NoMemory) => Err(NoMemory),
+    }
 }
 
 impl<'a, R: Threads + Sync, G> Loader<'a, R, G> {
@@ -98,17 +108,42 @@ impl<'a, R: Threads + Sync, G> Loader<'a, R, G> {
         ensures held { S.held source.new ≡ S.held source.old }
         ensures count { S.faults source.old ≤ S.faults source.new }
     {
-        if !reads_on(self.options, &head) {
-            let finding = sniff_kept(self.alloc, self.options, &head)?;
-            return Ok(SniffedHead { finding, head });
+        if reads_on(self.options, &head) {
+            let read = self.sniff_on(&head, source);
+            drop(head);
+            return read;
         }
+        let found = sniff_kept(self.alloc, self.options, &head);
+        Ok(found_in(head, found)?)
+    }
+
+    /// Finds what is in the sample of a head, and reads on meanwhile into a copy of it.
+    fn sniff_on<S: Source + Send>(
+        &self,
+        head: &InputWindow,
+        source: &mut S,
+    ) -> Result<SniffedHead, LoadStop>
+        requires accepted { IsAccepted self.now.options.now }
+        requires head { IsHead self.now.options.now.skip self.now.options.now.max_input head.now }
+        requires going { head.now.ended ≡ false }
+        ensures ok { IfOk result (IsSniffedHead self.now.options.now (S.left source.old) (S.left source.new) head.now) }
+        ensures columns { IfOk result (λ read. HasColumns (schema_of self.now.options.now read.finding.sniffed)) }
+        ensures at_end { IfOk result (λ read. read.head.ended ≡ true → IsAtEnd (S.left source.new)) }
+        ensures too_large { result ≡ Err stops.TooLarge → ComesOver (S.left source.old) (S.left source.new) head.now }
+        ensures failed { result ≡ Err stops.Failed → Rose (S.faults source.old) (S.faults source.new) }
+        ensures held { S.held source.new ≡ S.held source.old }
+        ensures count { S.faults source.old ≤ S.faults source.new }
+    {
         let mut next = InputWindow::new(self.alloc, self.options.max_input);
-        next.copy_rest(&head, 0)?;
-        let (found, filled) = self.sniff_beside(&head, &mut next, source);
-        filled?;
-        Ok(SniffedHead {
-            finding: found?,
-            head: next,
-        })
+        next.copy_rest(head, 0)?;
+        let (found, filled) = self.sniff_beside(head, &mut next, source);
+        match filled {
+            Ok(()) => Ok(found_in(next, found)?),
+            Err(stop) => {
+                drop(found);
+                drop(next);
+                Err(stop)
+            }
+        }
     }
 }

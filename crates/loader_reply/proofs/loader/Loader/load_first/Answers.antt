@@ -1,43 +1,23 @@
-use Rattle.std.proofs.Common.{◌≡◌, ◌<◌, ◌^◌, length, sym, subst, rules}
-use Rattle.window_load.specs.DataRead.{ComesOver}
-use Rattle.csv_sniffer.specs.Input.{found}
-use Rattle.csv_sniffer.specs.declared.found.Sniffed.{Sniffed}
-use Rattle.csv_sniffer.proofs.LaterHeaders.{few_found}
-use Rattle.loader_reply.specs.Loading.{IsFileLoad}
-use Rattle.loader_reply.proofs.HeadFiles.{whole_file, over_file}
-use Rattle.loader_reply.proofs.HeadSteps.{found_in_all}
-use Rattle.loader_reply.proofs.ReadOn.{still_opened}
+use Rattle.std.proofs.Common.{◌≡◌, sym, subst, ap, ◌∙◌}
+use Rattle.loader_reply.specs.Batch.{no_files, with_load}
+use Rattle.loader_reply.specs.SoFar.{ReadsNext}
+use Rattle.loader_reply.specs.declared.batch.LoadedFiles.{LoadedFiles}
+use Rattle.loader_reply.proofs.FileSteps.{first_joins, reads_first}
 use Rattle.loader_reply.proofs.loader.Loader.load_first.Goals as goal
+
+pub of_one-requires : goal.of_one-requires
+of_one-requires g c =
+    record { types = first_joins c.args.self.now.options.now c.in_ok-sniffed.sniffed (g.S.Source.held c.args.source.now) c.args.name.now (g.S.Source.left c.read_first.new.source) c.in_ok-sniffed.load c.in_ok-sniffed.ensures.ok }
 
 pub returns-clause-ok : goal.returns-clause-ok
 returns-clause-ok g c =
     let o = c.args.self.now.options.now in
-    let s = c.in_ok-finding.field-0.finding.sniffed in
-    let head = c.in_ok-finding.field-0.head in
-    let is = c.in_ok-finding.ensures.ok in
-    whole_file o.max_input (g.S.Source.held c.args.source.now) c.args.name.now (g.S.Source.left c.sniff_head.new.source) (g.S.Source.left c.load_data.new.source) head is.head.limit
-    (still_opened (g.S.Source.held c.args.source.now) c.args.name.now (g.S.Source.left c.open_head.new.source) (g.S.Source.left c.sniff_head.new.source) c.in_ok-head.head.kept head.kept c.in_ok-head.ensures.ok.1 is.moved)
-    (λ input. IsFileLoad o s 0 input c.in_ok-load.load) (λ input. (s ≡ found o input) × IsFileLoad o s 0 input c.in_ok-load.load)
-    (λ came quiet read. (found_in_all o head is.head came quiet s is.finding.sniffed, read))
-    c.in_ok-load.ensures.ok
-
-pub returns-clause-few : goal.returns-clause-few
-returns-clause-few g c =
-    let o = c.args.self.now.options.now in
-    let head = c.in_ok-finding.field-0.head in
-    subst (λ (t : Sniffed). length t.names < 2 ^ 63) (sym c.in_ok-finding.ensures.ok.finding.sniffed) (few_found o head.kept c.requires.accepted)
-
-pub returns-in_err-finding-clause-too_large : goal.returns-in_err-finding-clause-too_large
-returns-in_err-finding-clause-too_large g c = λ e.
-    let over : ComesOver (g.S.Source.left c.open_head.new.source) (g.S.Source.left c.sniff_head.new.source) c.in_ok-head.head = search rules in
-    over_file c.args.self.now.options.now.max_input (g.S.Source.held c.args.source.now) c.args.name.now (g.S.Source.left c.open_head.new.source) (g.S.Source.left c.sniff_head.new.source) c.in_ok-head.head c.in_ok-head.ensures.ok.0.limit c.in_ok-head.ensures.ok.1
-    over
-
-pub returns-in_err-load-clause-too_large : goal.returns-in_err-load-clause-too_large
-returns-in_err-load-clause-too_large g c = λ e.
-    let head = c.in_ok-finding.field-0.head in
-    let is = c.in_ok-finding.ensures.ok in
-    let over : ComesOver (g.S.Source.left c.sniff_head.new.source) (g.S.Source.left c.load_data.new.source) head = search rules in
-    over_file c.args.self.now.options.now.max_input (g.S.Source.held c.args.source.now) c.args.name.now (g.S.Source.left c.sniff_head.new.source) (g.S.Source.left c.load_data.new.source) head is.head.limit
-    (still_opened (g.S.Source.held c.args.source.now) c.args.name.now (g.S.Source.left c.open_head.new.source) (g.S.Source.left c.sniff_head.new.source) c.in_ok-head.head.kept head.kept c.in_ok-head.ensures.ok.1 is.moved)
-    over
+    let held = g.S.Source.held c.args.source.now in
+    let left = g.S.Source.left c.read_first.new.source in
+    let s = c.in_ok-sniffed.sniffed in
+    let load = c.in_ok-sniffed.load in
+    let named : c.in_ok-file.file ≡ c.args.name.now = c.in_ok-file.ensures ∙ c.as_bytes.ensures.value in
+    let same : c.in_ok-of_one.field-0 ≡ record { sniffed = s; load = with_load (no_files s.types) c.args.name.now load } =
+    c.in_ok-of_one.ensures.ok ∙ ap (λ n. record { sniffed = s; load = with_load (no_files s.types) n load }) named in
+    subst (λ (files : LoadedFiles). ReadsNext o files.sniffed held c.args.name.now 0 (no_files files.sniffed.types) files.load left) (sym same)
+    (reads_first o s held c.args.name.now left load c.in_ok-sniffed.ensures.ok)

@@ -1,9 +1,16 @@
-use Rattle.std.proofs.Common.{map, refl, Err, ap, ◌∙◌}
+use Rattle.std.proofs.Common.{length, map, refl, Err, ap, ◌∙◌, subst}
 use Rattle.std.proofs.lemmas.Result.{IfOk-weaker}
-use Rattle.loader_reply.specs.Batch.{names_of}
+use Rattle.loader_reply.specs.Batch.{names_of, HasFiles}
 use Rattle.loader_reply.specs.Reply.{inputs_reply}
 use Rattle.loader_reply.proofs.Replies.{loaded_told, stopped_told}
 use Rattle.loader_reply.proofs.loader.Loader.loaded_reply.Goals as goal
+
+pub load_reply-requires-clause-answerable : goal.load_reply-requires-clause-answerable
+load_reply-requires-clause-answerable g c κs within = record {
+  one = λ alone. subst (λ several. HasFiles (length (names_of several c.args.word.now)) c.in-Ok.files.load) (c.requires.one alone) c.in-Ok.ensures.files;
+  printable = c.in-Ok.ensures.printable;
+  fresh = c.requires.fresh;
+}
 
 pub returns-in-Ok-clause-ok : goal.returns-in-Ok-clause-ok
 returns-in-Ok-clause-ok g c =
@@ -11,7 +18,7 @@ returns-in-Ok-clause-ok g c =
     let taps = map (λ tap. (goal.RowTap-dyn g (tap.vtable, tap.value)).seen tap.value) c.args.taps.items in
     IfOk-weaker c.load_reply.result _ _
     (λ r is. loaded_told o.max_input (g.S.Source.held c.args.source.now) (names_of c.args.several c.args.word.now) (g.S.Source.left c.load_files.new.source)
-    (g.S.Source.faults c.args.source.now) (g.S.Source.faults c.load_files.new.source) r c.args.answer o c.in-Ok.sniffed taps c.in-Ok.load is c.in-Ok.ensures.ok refl)
+    (g.S.Source.faults c.args.source.now) (g.S.Source.faults c.load_files.new.source) r c.args.answer o c.in-Ok.files.sniffed taps c.in-Ok.files.load is c.in-Ok.ensures.ok refl)
     c.load_reply.ensures.ok
 
 pub returns-in-Err-clause-ok : goal.returns-in-Err-clause-ok

@@ -4,7 +4,7 @@ use Rattle.loader_reply.proofs.Replies.{loaded_prints, loaded_whole}
 use Rattle.loader_reply.proofs.loader.Loader.whole_reply.Goals as goal
 
 pub loaded_report-requires-after_bounds : goal.loaded_report-requires-after_bounds
-loaded_report-requires-after_bounds g c κs within = loaded_prints c.args.self.now.options.now c.args.sniffed c.args.batch c.args.stats c.loaded_of.result c.loaded_of.ensures c.requires.printable
+loaded_report-requires-after_bounds g c κs within = loaded_prints c.args.self.now.options.now c.args.sniffed c.args.batch c.args.stats c.loaded_of.result c.loaded_of.ensures c.requires.answerable.printable
 
 pub returns-in-Loaded : goal.returns-in-Loaded
 returns-in-Loaded g c =
