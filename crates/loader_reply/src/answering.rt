@@ -7,7 +7,7 @@ ghost use Rattle.report_text.specs.Printable.{IsPrintableBatch, IsPrintableLoad}
 ghost use Rattle.report_text.specs.declared.outcome.Outcome.TheVariants as outcomes;
 ghost use Rattle.loader_reply.specs.Fitting.{is_of_one, IsAnswerable};
 ghost use Rattle.loader_reply.specs.declared.batch.Load.TheVariants as loads;
-ghost use Rattle.loader_reply.specs.Reply.{in_format, inputs_reply, loaded_of, opened_reply, sniffed_reply, summary_reply, whole_reply, without_spare, written_reply};
+ghost use Rattle.loader_reply.specs.Reply.{inputs_reply, loaded_of, opened_reply, sniffed_reply, summary_reply, whole_reply, without_spare, written_reply};
 ghost use Rattle.loader_reply.specs.Batch.{names_of};
 ghost use Rattle.loader_reply.specs.Replying.{IsReplyBy, IsStopReply};
 ghost use Rattle.loader_reply.specs.Reply.{IsShort, outcome_reply};
@@ -22,7 +22,6 @@ use csv_sniffer::Sniffed;
 use csv_source::{Bytes, Gate, NoMemory, Source};
 use csv_writer::write_table;
 use file_list::Batch;
-use load_options::is_sqlite;
 use report_text::{Loaded, Outcome, Stats, all_in, render_batch, render_loaded};
 use std::sync::Wait;
 use std::thread::Threads;
@@ -177,17 +176,6 @@ impl<'a, R: Threads + Sync, G> Loader<'a, R, G> {
                 drop(batch);
                 reply
             }
-        }
-    }
-
-    /// The answer with a database in its place, where one is wanted.
-    pub fn in_format(&self, answer: Answer) -> Answer
-        ensures { result ≡ in_format self.now.options.now answer }
-    {
-        if is_sqlite(self.options.to) {
-            Answer::Database
-        } else {
-            answer
         }
     }
 
