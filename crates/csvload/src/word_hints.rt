@@ -42,10 +42,14 @@ fn push_quotes(said: &mut Line, value: &str) {
     }
 }
 
-/// Whether two lines may be headers, and differ. One that begins with `#` may be no row.
+/// Whether a line may be a header that stands as it is read: no line of comments or on the file, and no field quoted.
+fn may_be_header(line: &[u8]) -> bool {
+    !line.starts_with(b"#") && !line.contains(&b'"') && !tells_delimiter(line)
+}
+
+/// Whether two lines may be headers, and differ.
 fn differ(first: &[u8], other: &[u8]) -> bool {
-    let is_quoted = first.contains(&b'"') || other.contains(&b'"');
-    first != other && !is_quoted && !tells_delimiter(first) && !first.starts_with(b"#")
+    first != other && may_be_header(first) && may_be_header(other)
 }
 
 /// The first file of a batch that begins with another header than the first one.
