@@ -16,5 +16,5 @@ pub returns : goal.returns
 returns g c =
     let same = first_book c.args.self.now.options.now c.args.batch.now.files c.book.result.now c.book.ensures in record {
       ok = c.new.ensures
-          ∙ (λ i. reply (endings.Answered (c.in_ok-faults.ensures i) c.args.sniffed.now.other_delim) ((c.in_ok-text.ensures ∙ ap (λ (b : BookView). written_rejects b.stored) (sym same)) i));
+          ∙ (λ i. reply (endings.Answered (c.in_ok-faults.ensures i) (Some c.args.sniffed.now.noticed)) ((c.in_ok-text.ensures ∙ ap (λ (b : BookView). written_rejects b.stored) (sym same)) i));
     }
