@@ -45,6 +45,8 @@ SCHEMAS = {
     "text": "id:int author:text body:text tag:text",
     "dates": "id:int d:date t:time ts:stamp ok:bool",
     "wide": " ".join("n%02d:int" % c for c in range(50)),
+    "latin": "id:int name:text n:int note:text",
+    **dict.fromkeys(["plain", "half", "blank", "quoted", "ragged"], " ".join("n%d:int" % c for c in range(10))),
 }
 SQL_TYPES = {
     "sqlite": dict(int="INTEGER", bool="TEXT", date="TEXT", time="TEXT", stamp="TEXT", text="TEXT"),
