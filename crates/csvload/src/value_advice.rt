@@ -18,12 +18,16 @@ fn is_cut_by_space(words: &[String], index: usize) -> bool {
 /// Pairs of a name and a type as `column_types` takes them.
 fn push_pairs(said: &mut Line, value: &str) {
     let mut pairs = Line::new(said.alloc());
-    let mut before = "column_types=";
+    pairs.push("column_types=");
+    let mut is_first = true;
     for pair in value.split(',') {
+        if !is_first {
+            pairs.push(",");
+        }
+        is_first = false;
         let (name, ty) = pair.rsplit_once(':').unwrap_or((pair, ""));
         let (name, ty) = (name.trim_matches(AROUND), ty.trim_matches(AROUND));
-        pairs.say("{}{}:{}", &[Text(before), Text(name), Text(ty)]);
-        before = ",";
+        pairs.say("{}:{}", &[Text(name), Text(ty)]);
     }
     said.quote(&pairs);
 }

@@ -33,10 +33,14 @@ fn push_several(said: &mut Line, word: &str) {
 fn push_quotes(said: &mut Line, value: &str) {
     if value.split(',').any(is_quoted) && can_be_copied(value) {
         said.next_line();
-        let mut before = "hint: quotes are part of a text: 'nulls=";
+        said.push("hint: quotes are part of a text: 'nulls=");
+        let mut is_first = true;
         for text in value.split(',') {
-            said.say("{}{}", &[Text(before), Text(text.trim_matches('"'))]);
-            before = ",";
+            if !is_first {
+                said.push(",");
+            }
+            is_first = false;
+            said.push(text.trim_matches('"'));
         }
         said.push("' has none");
     }
