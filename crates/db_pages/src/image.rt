@@ -4,9 +4,9 @@ ghost use Rattle.db_pages.specs.Image.{image_over, no_table, with_table};
 ghost use Rattle.db_pages.specs.Laid.{next_place};
 
 use crate::first_page::first_page;
-use crate::list::{list_row, list_tree};
 use crate::locks::join_pages;
 use crate::number::{PAGE, number_of};
+use crate::schema_table::{list_row, list_tree};
 use crate::tree::Tree;
 use csv_source::NoMemory;
 use std::alloc::Global;

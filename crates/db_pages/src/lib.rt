@@ -16,10 +16,10 @@ mod image;
 pub mod laws;
 mod leaves;
 mod levels;
-mod list;
 mod locks;
 mod number;
 mod packing;
+mod schema_table;
 mod table_pages;
 mod tree;
 

@@ -8,7 +8,7 @@ use Rattle.value_types.specs.declared.types.ColumnType.{ColumnType}
 use Rattle.value_types.specs.Datum.{Datum}
 use Rattle.column_store.specs.ChunkView.{ChunkView}
 use Rattle.range_scan.specs.declared.context.Context.{Context}
-use Rattle.range_scan.specs.FastRows.{HasFields, IsFastRow, IsFieldPushed, IsUnder}
+use Rattle.range_scan.specs.FastRows.{HasFields, IsFastRow, IsFieldPushed, KeepsRows}
 use Rattle.row_fields.proofs.PlainReading.{delim_stops, line_end_stops}
 use Rattle.range_scan.proofs.FastFields.{last_one, one_more}
 
@@ -17,15 +17,15 @@ on_some None weaker p = p
 on_some (Some n) weaker p = weaker n p
 
 -- what changed twice alone is all that changed
-pub under_twice : (first old new : ChunkView) → IsUnder first old → IsUnder old new → IsUnder first new
+pub under_twice : (first old new : ChunkView) → KeepsRows first old → KeepsRows old new → KeepsRows first new
 under_twice first old new one two = two ∙ (λ i. record (one i) { unfinished = new.unfinished })
 
-module _ (context : Context) (sound : IsDialect context.dialect) (bytes : List ℕ) (from : ℕ) (first old new : ChunkView) (under : IsUnder first old) (ty : ColumnType)
+module _ (context : Context) (sound : IsDialect context.dialect) (bytes : List ℕ) (from : ℕ) (first old new : ChunkView) (under : KeepsRows first old) (ty : ColumnType)
     (next : slice_get context.schema.types (length old.unfinished) ≡ Some ty) (end : ℕ) (found : IsFieldPushed context ty bytes from old new end) (so : HasFields context bytes from old.unfinished) where
   unfinished_is : new.unfinished ≡ old.unfinished ++ found.cell ∷ []
   unfinished_is = ap (λ x. x.unfinished) found.pushed
 
-  pub still_under : IsUnder first new
+  pub still_under : KeepsRows first new
   still_under = found.pushed ∙ (λ i. record (under i) { unfinished = (sym found.pushed i).unfinished })
 
   pub one_longer : length new.unfinished ≡ length old.unfinished + 1

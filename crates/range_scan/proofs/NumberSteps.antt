@@ -8,7 +8,7 @@ use Rattle.value_types.specs.declared.types.Value.TheVariants.{Int}
 use Rattle.value_types.specs.Datum.{typed}
 use Rattle.column_store.specs.ChunkView.{ChunkView}
 use Rattle.range_scan.specs.declared.context.Context.{Context}
-use Rattle.range_scan.specs.FastRows.{HoldsNumbers, IsFieldPushed, IsNumberAt, IsUnder}
+use Rattle.range_scan.specs.FastRows.{HoldsNumbers, IsFieldPushed, IsNumberAt, KeepsRows}
 use Rattle.range_scan.proofs.PlainFields.{plain_field, plain_is_ascii}
 
 -- the next column takes numbers
@@ -16,7 +16,7 @@ pub takes_number : (context : Context) → HoldsNumbers context → (column : �
 takes_number context holds column lt = slice_get-get_or context.schema.types column Bigint lt ∙ ap Some (holds.types column Bigint lt)
 
 -- and so it does in the row under way
-pub takes_next : (context : Context) → HoldsNumbers context → (first chunk : ChunkView) → first.types ≡ context.schema.types → IsUnder first chunk → length chunk.unfinished < length first.types →
+pub takes_next : (context : Context) → HoldsNumbers context → (first chunk : ChunkView) → first.types ≡ context.schema.types → KeepsRows first chunk → length chunk.unfinished < length first.types →
     slice_get chunk.types (length chunk.unfinished) ≡ Some Bigint
 takes_next context holds first chunk types under lt =
     ap (λ tys. slice_get tys (length chunk.unfinished)) (ap (λ x. x.types) under ∙ types) ∙ takes_number context holds (length chunk.unfinished) (omega (arith, lt, ap length types))

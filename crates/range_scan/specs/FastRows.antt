@@ -85,8 +85,8 @@ pub record IsFieldPushed (context : Context) (ty : ColumnType) (bytes : List ℕ
   pub ascii : ty ≢ Varchar → (k : ℕ) → from ≤ k → k < end → slice_index bytes k < 128
 
 -- only the row under way has changed
-abbrev pub IsUnder : ChunkView → ChunkView → Type 0
-IsUnder old new = new ≡ record old { unfinished = new.unfinished }
+abbrev pub KeepsRows : ChunkView → ChunkView → Type 0
+KeepsRows old new = new ≡ record old { unfinished = new.unfinished }
 
 -- the cells of fields in the first columns
 abbrev pub cells_in : Schema → List ColumnType → List Field → List (Option Datum)

@@ -3,7 +3,7 @@ ghost use Rattle.std.specs.Prelude.{◌≡◌, ◌≤◌, ◌<◌, [], false, tr
 ghost use Rattle.byte_classes.specs.Fault.{is_line_end_byte};
 ghost use Rattle.quote_automaton.specs.Rows.{begins_comment};
 ghost use Rattle.value_types.specs.declared.types.ColumnType.{ColumnType};
-ghost use Rattle.range_scan.specs.FastRows.{HoldsFields, IsFastRow, IsFieldPushed, IsUnder};
+ghost use Rattle.range_scan.specs.FastRows.{HoldsFields, IsFastRow, IsFieldPushed, KeepsRows};
 
 use super::texts::push_text;
 use crate::context::Context;
@@ -48,7 +48,7 @@ fn push_field(
     requires next { slice_get chunk.old.types (length chunk.old.unfinished) ≡ Some ty }
     requires within { from ≤ length bytes.now }
     ensures at { IfOk result (λ found. IfSome found (IsFieldPushed context.now ty bytes.now from chunk.old chunk.new)) }
-    ensures none { IfOk result (λ found. found ≡ None → IsUnder chunk.old chunk.new) }
+    ensures none { IfOk result (λ found. found ≡ None → KeepsRows chunk.old chunk.new) }
 {
     if ty == ColumnType::Varchar {
         return push_text(chunk, context, bytes, from);
@@ -86,7 +86,7 @@ pub fn push_fields(
     requires whole { chunk.old.unfinished ≡ [] }
     requires types { chunk.old.types ≡ context.now.schema.types }
     requires no_comment { begins_comment context.now.dialect bytes.now ≡ false }
-    ensures same { IfOk result (λ row. IsUnder chunk.old chunk.new) }
+    ensures same { IfOk result (λ row. KeepsRows chunk.old chunk.new) }
     ensures count { IfOk result (λ row. IfSome row (λ end. length chunk.new.unfinished ≡ length chunk.old.types)) }
     ensures ok { IfOk result (λ row. IfSome row (IsFastRow context.now bytes.now chunk.new.unfinished)) }
 {

@@ -3,7 +3,7 @@ ghost use Rattle.std.specs.Prelude.{◌≡◌, ◌≤◌, ◌<◌, ◌+◌, fals
 ghost use Rattle.quote_automaton.specs.Automaton.{IsDoubling};
 ghost use Rattle.quote_automaton.specs.Rows.{begins_comment};
 ghost use Rattle.value_types.specs.declared.types.ColumnType.TheVariants.{Bigint};
-ghost use Rattle.range_scan.specs.FastRows.{HasFields, HoldsNumbers, IsFastRow, IsFieldPushed, IsNumberAt, IsUnder};
+ghost use Rattle.range_scan.specs.FastRows.{HasFields, HoldsNumbers, IsFastRow, IsFieldPushed, IsNumberAt, KeepsRows};
 
 use super::fields::{push_empty, row_end};
 use super::texts::is_quote;
@@ -51,7 +51,7 @@ fn push_quoted_number(
     requires within { from < length bytes.now }
     requires doubles { IsDoubling context.now.dialect (slice_index bytes.now from) }
     ensures at { IfOk result (λ found. IfSome found (IsFieldPushed context.now Bigint bytes.now from chunk.old chunk.new)) }
-    ensures none { IfOk result (λ found. found ≡ None → IsUnder chunk.old chunk.new) }
+    ensures none { IfOk result (λ found. found ≡ None → KeepsRows chunk.old chunk.new) }
 {
     let Some(front) = quoted_number(bytes, from) else {
         return Ok(None);
@@ -73,7 +73,7 @@ fn push_other(
     requires next { slice_get chunk.old.types (length chunk.old.unfinished) ≡ Some Bigint }
     requires within { from ≤ length bytes.now }
     ensures at { IfOk result (λ found. IfSome found (IsFieldPushed context.now Bigint bytes.now from chunk.old chunk.new)) }
-    ensures none { IfOk result (λ found. found ≡ None → IsUnder chunk.old chunk.new) }
+    ensures none { IfOk result (λ found. found ≡ None → KeepsRows chunk.old chunk.new) }
 {
     if from == bytes.len() || !is_quote(&context.dialect, bytes[from]) {
         return push_empty(chunk, context, bytes, from);
@@ -98,7 +98,7 @@ fn push_number(
     requires next { slice_get chunk.old.types (length chunk.old.unfinished) ≡ Some Bigint }
     requires within { from ≤ length bytes.now }
     ensures at { IfOk result (λ found. IfSome found (IsFieldPushed context.now Bigint bytes.now from chunk.old chunk.new)) }
-    ensures none { IfOk result (λ found. found ≡ None → IsUnder chunk.old chunk.new) }
+    ensures none { IfOk result (λ found. found ≡ None → KeepsRows chunk.old chunk.new) }
 {
     let Some(front) = number_at(bytes, from) else {
         return push_other(chunk, context, bytes, from);
@@ -124,7 +124,7 @@ pub fn push_rest(
     requires within { start ≤ length bytes.now }
     requires fields { HasFields context.now bytes.now start chunk.old.unfinished }
     requires no_comment { begins_comment context.now.dialect bytes.now ≡ false }
-    ensures same { IfOk result (λ row. IsUnder chunk.old chunk.new) }
+    ensures same { IfOk result (λ row. KeepsRows chunk.old chunk.new) }
     ensures count { IfOk result (λ row. IfSome row (λ end. length chunk.new.unfinished ≡ length chunk.old.types)) }
     ensures ok { IfOk result (λ row. IfSome row (IsFastRow context.now bytes.now chunk.new.unfinished)) }
 {

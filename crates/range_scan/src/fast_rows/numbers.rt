@@ -2,7 +2,7 @@
 ghost use Rattle.std.specs.Prelude.{◌≡◌, ◌≤◌, [], false, true, length, IfOk, IfSome, slice_index};
 ghost use Rattle.byte_classes.specs.Fault.{is_line_end_byte};
 ghost use Rattle.quote_automaton.specs.Rows.{begins_comment};
-ghost use Rattle.range_scan.specs.FastRows.{HoldsNumbers, IsFastRow, IsNumberAt, IsUnder};
+ghost use Rattle.range_scan.specs.FastRows.{HoldsNumbers, IsFastRow, IsNumberAt, KeepsRows};
 
 use super::number_fields::{number_at, push_rest};
 use crate::context::Context;
@@ -53,7 +53,7 @@ pub fn push_numbers(
     requires whole { chunk.old.unfinished ≡ [] }
     requires types { chunk.old.types ≡ context.now.schema.types }
     requires no_comment { begins_comment context.now.dialect bytes.now ≡ false }
-    ensures same { IfOk result (λ row. IsUnder chunk.old chunk.new) }
+    ensures same { IfOk result (λ row. KeepsRows chunk.old chunk.new) }
     ensures count { IfOk result (λ row. IfSome row (λ end. length chunk.new.unfinished ≡ length chunk.old.types)) }
     ensures ok { IfOk result (λ row. IfSome row (IsFastRow context.now bytes.now chunk.new.unfinished)) }
 {

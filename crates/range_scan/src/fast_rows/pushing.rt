@@ -5,7 +5,7 @@ ghost use Rattle.quote_automaton.specs.Rows.{begins_comment};
 ghost use Rattle.row_fields.specs.Split.{row_from};
 ghost use Rattle.reject_book.specs.declared.reject.RowPlace.{RowPlace};
 ghost use Rattle.reject_book.specs.Judging.{verdict_of};
-ghost use Rattle.range_scan.specs.FastRows.{IsFastRow, IsKindOf, IsUnder};
+ghost use Rattle.range_scan.specs.FastRows.{IsFastRow, IsKindOf, KeepsRows};
 ghost use Rattle.range_scan.specs.Known.{Knows};
 ghost use Rattle.range_scan.specs.Pushed.{IsPushed};
 
@@ -30,7 +30,7 @@ fn push_cells(
     requires whole { chunk.old.unfinished ≡ [] }
     requires types { chunk.old.types ≡ context.now.schema.types }
     requires no_comment { begins_comment context.now.dialect bytes.now ≡ false }
-    ensures same { IfOk result (λ row. IsUnder chunk.old chunk.new) }
+    ensures same { IfOk result (λ row. KeepsRows chunk.old chunk.new) }
     ensures count { IfOk result (λ row. IfSome row (λ end. length chunk.new.unfinished ≡ length chunk.old.types)) }
     ensures ok { IfOk result (λ row. IfSome row (IsFastRow context.now bytes.now chunk.new.unfinished)) }
 {

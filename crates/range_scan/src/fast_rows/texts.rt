@@ -4,7 +4,7 @@ ghost use Rattle.byte_classes.specs.Dialect.{is_byte};
 ghost use Rattle.byte_classes.specs.Places.{first_place};
 ghost use Rattle.quote_automaton.specs.Automaton.{IsDoubling};
 ghost use Rattle.value_types.specs.declared.types.ColumnType.TheVariants.{Varchar};
-ghost use Rattle.range_scan.specs.FastRows.{HoldsFields, IsFieldPushed, IsUnder, text_cell};
+ghost use Rattle.range_scan.specs.FastRows.{HoldsFields, IsFieldPushed, KeepsRows, text_cell};
 
 use crate::context::Context;
 use byte_classes::{Dialect, next_byte, next_special};
@@ -56,7 +56,7 @@ fn push_bare(
     requires within { from < length bytes.now }
     requires bare { is_byte context.now.dialect.quote (slice_index bytes.now from) ≡ false }
     ensures at { IfOk result (λ found. IfSome found (IsFieldPushed context.now Varchar bytes.now from chunk.old chunk.new)) }
-    ensures none { IfOk result (λ found. found ≡ None → IsUnder chunk.old chunk.new) }
+    ensures none { IfOk result (λ found. found ≡ None → KeepsRows chunk.old chunk.new) }
 {
     let end = next_special(&context.dialect, bytes, from, false);
     if end == bytes.len() {
@@ -83,7 +83,7 @@ fn push_doubled(
     requires first { first ≡ first_place (λ r. slice_index bytes.now r == slice_index bytes.now from) (from + 1) bytes.now }
     requires doubled { (first + 1 < length bytes.now) × (slice_index bytes.now (first + 1) ≡ slice_index bytes.now from) }
     ensures at { IfOk result (λ found. IfSome found (IsFieldPushed context.now Varchar bytes.now from chunk.old chunk.new)) }
-    ensures none { IfOk result (λ found. found ≡ None → IsUnder chunk.old chunk.new) }
+    ensures none { IfOk result (λ found. found ≡ None → KeepsRows chunk.old chunk.new) }
 {
     let quote = bytes[from];
     let mut at = first;
@@ -113,7 +113,7 @@ fn push_quoted(
     requires within { from < length bytes.now }
     requires doubles { IsDoubling context.now.dialect (slice_index bytes.now from) }
     ensures at { IfOk result (λ found. IfSome found (IsFieldPushed context.now Varchar bytes.now from chunk.old chunk.new)) }
-    ensures none { IfOk result (λ found. found ≡ None → IsUnder chunk.old chunk.new) }
+    ensures none { IfOk result (λ found. found ≡ None → KeepsRows chunk.old chunk.new) }
 {
     let quote = bytes[from];
     let at = next_byte(quote, bytes, from + 1);
@@ -149,7 +149,7 @@ pub fn push_text(
     requires next { slice_get chunk.old.types (length chunk.old.unfinished) ≡ Some Varchar }
     requires within { from ≤ length bytes.now }
     ensures at { IfOk result (λ found. IfSome found (IsFieldPushed context.now Varchar bytes.now from chunk.old chunk.new)) }
-    ensures none { IfOk result (λ found. found ≡ None → IsUnder chunk.old chunk.new) }
+    ensures none { IfOk result (λ found. found ≡ None → KeepsRows chunk.old chunk.new) }
 {
     if from == bytes.len() {
         return Ok(None);

@@ -1,11 +1,11 @@
 use Rattle.std.proofs.Common.{◌≡◌, ◌≤◌, ◌+◌, length}
-use Rattle.range_scan.specs.FastRows.{HasFields, IsUnder}
+use Rattle.range_scan.specs.FastRows.{HasFields, KeepsRows}
 use Rattle.range_scan.proofs.fast_rows.numbers.push_numbers.Given as goal
 
 -- the numbers of the columns so far are under way
 abbrev pub invariant-loop-column : goal.invariant-loop-column
 invariant-loop-column l = record {
-  under : IsUnder l.fn.chunk l.chunk;
+  under : KeepsRows l.fn.chunk l.chunk;
   count : length l.chunk.unfinished + 1 ≡ l.column;
   within : l.from ≤ length l.bytes;
   fields : HasFields l.context l.bytes l.from l.chunk.unfinished;

@@ -5,7 +5,7 @@ use Rattle.db_records.specs.Record.{record_of, type_bytes, value_bytes}
 use Rattle.db_pages.specs.Image.{list_row}
 use Rattle.db_pages.specs.Numbers.{number_of}
 use Rattle.db_pages.proofs.Appends.{five_behind}
-use Rattle.db_pages.proofs.list.list_row.Goals as goal
+use Rattle.db_pages.proofs.schema_table.list_row.Goals as goal
 
 pub returns : goal.returns
 returns c =

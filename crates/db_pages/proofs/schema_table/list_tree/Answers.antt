@@ -4,7 +4,7 @@ use Rattle.std.proofs.lemmas.Result.{IfOk-weaker}
 use Rattle.db_pages.specs.Grown.{Filled, closed, filled, tree_of, tree_over}
 use Rattle.db_pages.specs.Laid.{with_rows}
 use Rattle.db_pages.proofs.Rows.{bytes_of, filled-more, length-bytes, rows-more}
-use Rattle.db_pages.proofs.list.list_tree.Goals as goal
+use Rattle.db_pages.proofs.schema_table.list_tree.Goals as goal
 
 pub loop-row-preserved : goal.loop-row-preserved
 loop-row-preserved c =

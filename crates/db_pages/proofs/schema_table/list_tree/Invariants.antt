@@ -1,7 +1,7 @@
 use Rattle.std.proofs.Common.{◌≡◌, ◌+◌, take}
 use Rattle.db_pages.specs.Grown.{filled}
 use Rattle.db_pages.proofs.Rows.{bytes_of}
-use Rattle.db_pages.proofs.list.list_tree.Given as goal
+use Rattle.db_pages.proofs.schema_table.list_tree.Given as goal
 
 -- the rows so far are laid out
 abbrev pub invariant-loop-row : goal.invariant-loop-row
