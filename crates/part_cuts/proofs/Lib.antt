@@ -1,0 +1,4 @@
+pub mod NoCutLaws
+pub mod PartLaws
+pub mod PassedLaws
+pub mod ReadingLaws

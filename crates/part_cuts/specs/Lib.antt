@@ -1,0 +1,6 @@
+pub mod Cut
+pub mod Laws
+pub mod NoCut
+pub mod Passed
+pub mod Reading
+pub mod Within
