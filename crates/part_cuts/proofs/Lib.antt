@@ -1,4 +1,5 @@
 pub mod NoCutLaws
 pub mod PartLaws
 pub mod PassedLaws
+pub mod PlaceOrder
 pub mod ReadingLaws

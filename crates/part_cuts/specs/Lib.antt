@@ -1,6 +1,7 @@
 pub mod Cut
 pub mod Laws
 pub mod NoCut
+pub mod Part
 pub mod Passed
 pub mod Reading
 pub mod Within

@@ -1,9 +1,10 @@
 //! Where the parts of a file begin.
-ghost use Rattle.std.specs.Prelude.{◌≡◌, ℕ, ◌+◌, ◌<◌, ◌≤◌, ◌^◌, ◌⊎◌, length, take, drop, MatchResult, OnOk, OnErr, true};
+ghost use Rattle.std.specs.Prelude.{◌≡◌, ℕ, ◌+◌, ◌<◌, ◌≤◌, ◌^◌, ◌⊎◌, length, take, drop, MatchResult, OnOk, OnErr, true, Some, slice_get};
 ghost use Rattle.std.specs.List.{last_or};
 
 use crate::cut_rule::CutRule;
 use crate::first_cut::first_cut;
+use crate::part::{Part, part_at};
 use crate::row_count::count_rows;
 use crate::tally::Tally;
 use byte_classes::{byte_before, count_line_ends};
@@ -28,13 +29,13 @@ pub struct Cuts {
 
 impl Model for Cuts {
     ghost use Rattle.part_cuts.specs.Reading.{Reading};
-    ghost use Rattle.part_cuts.specs.Within.{IsCutRule, IsTally};
+    ghost use Rattle.part_cuts.specs.Within.{Ascends, IsCutRule, IsTally};
 
     ghost Value = { Reading };
 
     ghost view = { λ c. record { rule = c.rule; state = c.state; before = c.before; tally = c.tally; due = c.due; starts = c.starts.items } };
 
-    ghost invariant = { λ c. IsCutRule c.rule × IsTally c.tally };
+    ghost invariant = { λ c. IsCutRule c.rule × IsTally c.tally × Ascends c.starts.items c.tally };
 }
 
 /// The last of some bytes, or the one before them.
@@ -50,6 +51,7 @@ fn last_byte(before: Option<u8>, bytes: &[u8]) -> Option<u8>
 
 impl Cuts {
     ghost use Rattle.part_cuts.specs.Reading.{Reading, begins_part, begun, reading, reading_from};
+    ghost use Rattle.part_cuts.specs.Part.{parts};
     ghost use Rattle.part_cuts.specs.Passed.{passed};
     ghost use Rattle.part_cuts.specs.Within.{IsCutRule, most_bytes};
 
@@ -154,6 +156,7 @@ impl Cuts {
         requires within { count ≤ length bytes.now }
         requires fits { self.old.tally.bytes + count ≤ most_bytes }
         ensures ok { OnOk result (self.new ≡ reading self.old (take count bytes.now) (drop count bytes.now)) }
+        ensures bytes { OnOk result (self.new.tally.bytes ≡ self.old.tally.bytes + count) }
         ensures err { OnErr result ((n : ℕ) × (n ≤ count) × (self.new ≡ reading self.old (take n bytes.now) (drop n bytes.now))) }
     {
         let mut at = 0;
@@ -170,10 +173,18 @@ impl Cuts {
         self.tally
     }
 
-    /// What lies before each part so far.
-    pub fn starts(&self) -> &[Tally]
-        ensures { result.now ≡ self.now.starts }
+    /// How many parts there are so far.
+    pub fn count(&self) -> usize
+        ensures { result ≡ length self.now.starts }
     {
-        &self.starts
+        self.starts.len()
+    }
+
+    /// A part, counted from 0, where the file ends behind the bytes so far.
+    pub fn part(&self, number: usize) -> Part
+        requires { number < length self.now.starts }
+        ensures { slice_get (parts self.now.starts self.now.tally) number ≡ Some result }
+    {
+        part_at(&self.starts, self.tally, number)
     }
 }

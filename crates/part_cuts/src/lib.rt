@@ -10,10 +10,12 @@ pub mod cut_rule;
 mod cuts;
 mod first_cut;
 pub mod laws;
+mod part;
 mod row_bytes;
 mod row_count;
 mod tally;
 
 pub use cut_rule::{CutRule, MOST_SIZE};
 pub use cuts::{Cuts, MOST_BYTES};
+pub use part::Part;
 pub use tally::Tally;

@@ -30,3 +30,11 @@ loop-at-preserved c =
     let place : c.pass_part.new.self.tally.bytes ≡ c.args.self.now.tally.bytes + length (take (c.loop-at.at + n) c.args.bytes.now) =
     ap (λ (r : Reading). r.tally.bytes) read ∙ reading_bytes c.args.self.now (take (c.loop-at.at + n) c.args.bytes.now) (drop (c.loop-at.at + n) c.args.bytes.now) in
     record { high = high; read = read; fits = omega (arith, place, all, high, c.requires.fits) }
+
+pub returns-clause-bytes : goal.returns-clause-bytes
+returns-clause-bytes c =
+    let at = c.loop-at.at in
+    let all = length-take-le at c.args.bytes.now (omega (arith, c.loop-at.invariant.high, c.requires.within)) in
+    let place : c.loop-at.self.tally.bytes ≡ c.args.self.now.tally.bytes + length (take at c.args.bytes.now) =
+    ap (λ (r : Reading). r.tally.bytes) c.loop-at.invariant.read ∙ reading_bytes c.args.self.now (take at c.args.bytes.now) (drop at c.args.bytes.now) in
+    omega (arith, place, all, c.loop-at.invariant.high, c.loop-at-test.false)
