@@ -3,6 +3,7 @@ mod chain_words_links;
 mod claim_board_orders;
 mod contexts;
 mod dialects;
+mod part_cuts_parts;
 mod quote_automaton_states;
 mod range_guess_cuts;
 mod range_scan_parts;
