@@ -11,6 +11,7 @@ mod cuts;
 mod first_cut;
 pub mod laws;
 mod part;
+mod plain_rows;
 mod row_bytes;
 mod row_count;
 mod tally;

@@ -1,0 +1,71 @@
+-- Rows that are counted up to a place, and on.
+use Rattle.std.proofs.Common.{◌≡◌, ℕ, ◌+◌, ◌<◌, ◌≤◌, Bool, true, false, cond, List, drop, length, get_or, refl, sym, ◌∙◌, ap, subst, arith}
+use Rattle.std.specs.Prelude.{◌==◌}
+use Rattle.std.proofs.lemmas.List.{drop_more}
+use Rattle.std.proofs.lemmas.Simd.{length-chunk}
+use lib.Lanes.{chunk}
+use Rattle.byte_classes.specs.Class.{class_of}
+use Rattle.quote_automaton.specs.declared.state.State.{State}
+use Rattle.quote_automaton.specs.Automaton.{state_after, step}
+use Rattle.part_cuts.specs.declared.cut_rule.CutRule.{CutRule}
+use Rattle.part_cuts.specs.declared.row_count.Counted.{Counted}
+use Rattle.part_cuts.specs.Counted.{GoesOn}
+use Rattle.part_cuts.specs.Cut.{counts_row}
+use Rattle.part_cuts.specs.Passed.{rows_begun}
+use Rattle.part_cuts.specs.PlainRows.{begun_behind, is_marked}
+use Rattle.part_cuts.proofs.PlainBits.{begun_behind-le}
+use Rattle.part_cuts.proofs.PlainRuns.{rows_of_run, state_behind, state_of_run}
+
+pub goes_nowhere : (rule : CutRule) (bytes : List ℕ) (old : Counted) → old.at ≤ length bytes → GoesOn rule bytes old old
+goes_nowhere rule bytes old room = record { low = omega arith; high = room; few = omega arith; after = refl; rows = refl }
+
+pub goes_further : (rule : CutRule) (bytes : List ℕ) (a b c : Counted) → GoesOn rule bytes a b → GoesOn rule bytes b c → GoesOn rule bytes a c
+goes_further rule bytes a b c ab bc = record {
+  low = omega (arith, ab.low, bc.low);
+  high = bc.high;
+  few = omega (arith, ab.few, bc.few);
+  after = bc.after ∙ ab.after;
+  rows = bc.rows ∙ ab.rows;
+}
+
+-- over a byte
+pub goes_on_byte : (rule : CutRule) (bytes : List ℕ) (old : Counted) (s : State) (more : ℕ) → old.at < length bytes → s ≡ step rule.dialect old.state (get_or bytes old.at 0) →
+    more ≡ cond (counts_row rule.columns old.state (class_of rule.dialect (get_or bytes old.at 0))) 1 0 → GoesOn rule bytes old (record { at = old.at + 1; state = s; rows = old.rows + more })
+goes_on_byte rule bytes old s more below is_state is_more =
+    let d = rule.dialect in
+    let b : ℕ = get_or bytes old.at 0 in
+    let rest : List ℕ = drop (old.at + 1) bytes in
+    let left = drop_more bytes old.at 0 below in
+    let one : more ≤ 1 = subst (λ n. n ≤ 1) (sym is_more) (at_most (counts_row rule.columns old.state (class_of d b))) in
+    let all : rows_begun d rule.columns old.state (drop old.at bytes) ≡ more + rows_begun d rule.columns s rest =
+    ap (rows_begun d rule.columns old.state) left ∙ (λ i. sym is_more i + rows_begun d rule.columns (sym is_state i) rest) in
+    record {
+      low = omega arith;
+      high = omega (arith, below);
+      few = omega (arith, one);
+      after = ap (λ u. state_after d u rest) is_state ∙ sym (ap (state_after d old.state) left);
+      rows = omega (arith, all);
+    }
+  where
+    at_most : (t : Bool) → cond t 1 0 ≤ 1
+    at_most true = omega arith
+    at_most false = omega arith
+
+-- over a block without a quote and without a comment byte
+pub goes_on_block : (rule : CutRule) (bytes : List ℕ) (old : Counted) (last : ℕ) (s : State) (more : ℕ) → old.at ≡ last + 1 → last + 65 ≤ length bytes → (rule.columns == 1) ≡ false →
+    old.state ≡ state_behind rule.dialect bytes last → s ≡ state_behind rule.dialect bytes (last + 64) → more ≡ begun_behind (get_or bytes last 0) (chunk (last + 1) 64 bytes) →
+    ((i : ℕ) → i < 64 → is_marked rule.dialect (get_or bytes (last + 1 + i) 0) ≡ false) → GoesOn rule bytes old (record { at = old.at + 64; state = s; rows = old.rows + more })
+goes_on_block rule bytes old last s more place room several is_old is_new is_more bare =
+    let d = rule.dialect in
+    let far : last + 64 + 1 ≡ old.at + 64 = omega (arith, place) in
+    let here : List ℕ = drop (old.at + 64) bytes in
+    let few : more ≤ 64 = (let le = begun_behind-le (get_or bytes last 0) (chunk (last + 1) 64 bytes) in let long = length-chunk (last + 1) 64 bytes (omega (arith, room)) in omega (arith, is_more, le, long)) in
+    let state : state_after d old.state (drop old.at bytes) ≡ state_after d s here =
+    (λ i. state_after d (is_old i) (drop (place i) bytes))
+    ∙ state_of_run d rule.columns several bytes 64 last (omega (arith, room)) bare
+    ∙ (λ i. state_after d (sym is_new i) (drop (far i) bytes)) in
+    let all : rows_begun d rule.columns old.state (drop old.at bytes) ≡ more + rows_begun d rule.columns s here =
+    (λ i. rows_begun d rule.columns (is_old i) (drop (place i) bytes))
+    ∙ rows_of_run d rule.columns several bytes 64 last (omega (arith, room)) bare
+    ∙ (λ i. sym is_more i + rows_begun d rule.columns (sym is_new i) (drop (far i) bytes)) in
+    record { low = omega arith; high = omega (arith, place, room); few = omega (arith, few); after = sym state; rows = omega (arith, all) }
