@@ -12,6 +12,7 @@ mod first_cut;
 pub mod laws;
 mod part;
 mod plain_rows;
+mod quiet_runs;
 mod row_bytes;
 mod row_count;
 mod tally;

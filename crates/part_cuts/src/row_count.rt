@@ -6,6 +6,7 @@ ghost use Rattle.part_cuts.specs.Passed.{rows_begun};
 
 use crate::cut_rule::CutRule;
 use crate::plain_rows::{plain_state, rows_in_block};
+use crate::quiet_runs::quiet_end;
 use crate::row_bytes::counts_row;
 use byte_classes::class_of;
 use quote_automaton::{State, step};
@@ -54,23 +55,36 @@ fn pass_blocks(rule: &CutRule, bytes: &[u8], from: Counted) -> Counted
     counted
 }
 
-/// Goes on byte by byte up to a place.
+/// Goes on over a byte.
+#[inline(always)]
+fn next_byte(rule: &CutRule, bytes: &[u8], from: Counted) -> Counted
+    requires within { from.at < length bytes.now }
+    requires few { from.rows ≤ from.at }
+    ensures on { GoesOn rule.now bytes.now from result }
+    ensures far { result.at ≡ from.at + 1 }
+{
+    let byte = bytes[from.at];
+    let counts = counts_row(rule.columns, from.state, class_of(&rule.dialect, byte));
+    Counted {
+        at: from.at + 1,
+        state: step(&rule.dialect, from.state, byte),
+        rows: from.rows + u64::from(counts),
+    }
+}
+
+/// Goes on byte by byte up to a place, and over the run of bytes behind it that change nothing.
 fn walk(rule: &CutRule, bytes: &[u8], from: Counted, until: usize) -> Counted
     requires low { from.at ≤ until }
     requires high { until ≤ length bytes.now }
     requires few { from.rows ≤ from.at }
     ensures on { GoesOn rule.now bytes.now from result }
-    ensures at { result.at ≡ until }
+    ensures far { until ≤ result.at }
 {
     let mut counted = from;
     while counted.at < until {
-        let byte = bytes[counted.at];
-        let counts = counts_row(rule.columns, counted.state, class_of(&rule.dialect, byte));
-        counted = Counted {
-            at: counted.at + 1,
-            state: step(&rule.dialect, counted.state, byte),
-            rows: counted.rows + u64::from(counts),
-        };
+        let next = next_byte(rule, bytes, counted);
+        let at = quiet_end(&rule.dialect, next.state, bytes, next.at);
+        counted = Counted { at, ..next };
     }
     counted
 }
