@@ -6,3 +6,4 @@ pub mod PlaceOrder
 pub mod PlainBits
 pub mod PlainRuns
 pub mod ReadingLaws
+pub mod StartLaws

@@ -29,7 +29,7 @@ passed-nil r =
     λ i. record r { tally = record { bytes = all i; lines = ends i; rows = starts i } }
 
 -- a byte, and those behind it
-passed-cons : (r : Reading) (b : ℕ) (bytes : List ℕ) → passed (behind r b) bytes ≡ passed r (b ∷ bytes)
+pub passed-cons : (r : Reading) (b : ℕ) (bytes : List ℕ) → passed (behind r b) bytes ≡ passed r (b ∷ bytes)
 passed-cons r b bytes =
     let one : ℕ = cond (ends_physical_line r.before b) 1 0 in
     let row : ℕ = cond (counts_row r.rule.columns r.state (class_of r.rule.dialect b)) 1 0 in

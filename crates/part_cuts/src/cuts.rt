@@ -1,13 +1,13 @@
 //! Where the parts of a file begin.
 ghost use Rattle.std.specs.Prelude.{◌≡◌, ℕ, ◌+◌, ◌<◌, ◌≤◌, ◌^◌, ◌⊎◌, length, take, drop, MatchResult, OnOk, OnErr, true, Some, slice_get};
-ghost use Rattle.std.specs.List.{last_or};
 
 use crate::cut_rule::CutRule;
 use crate::first_cut::first_cut;
+use crate::last_byte::last_byte;
 use crate::part::{Part, part_at};
 use crate::row_count::count_rows;
 use crate::tally::Tally;
-use byte_classes::{byte_before, count_line_ends};
+use byte_classes::count_line_ends;
 use csv_source::NoMemory;
 use quote_automaton::State;
 use std::alloc::Global;
@@ -36,17 +36,6 @@ impl Model for Cuts {
     ghost view = { λ c. record { rule = c.rule; state = c.state; before = c.before; tally = c.tally; due = c.due; starts = c.starts.items } };
 
     ghost invariant = { λ c. IsCutRule c.rule × IsTally c.tally × Ascends c.starts.items c.tally };
-}
-
-/// The last of some bytes, or the one before them.
-fn last_byte(before: Option<u8>, bytes: &[u8]) -> Option<u8>
-    ensures { result ≡ last_or before bytes.now }
-{
-    if bytes.is_empty() {
-        before
-    } else {
-        byte_before(bytes, bytes.len())
-    }
 }
 
 impl Cuts {

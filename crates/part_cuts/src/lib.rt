@@ -9,6 +9,7 @@
 pub mod cut_rule;
 mod cuts;
 mod first_cut;
+mod last_byte;
 pub mod laws;
 mod part;
 mod plain_rows;
