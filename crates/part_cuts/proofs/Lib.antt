@@ -1,4 +1,5 @@
 pub mod CountedLaws
+pub mod CoverLaws
 pub mod NoCutLaws
 pub mod PartLaws
 pub mod PassedLaws

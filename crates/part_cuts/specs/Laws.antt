@@ -1,11 +1,12 @@
 -- The laws of readings.
-use Rattle.std.specs.Prelude.{◌≡◌, ◌⊎◌, ℕ, ◌+◌, true, List, [], ◌++◌, length, take, All, None}
+use Rattle.std.specs.Prelude.{◌≡◌, ◌⊎◌, ℕ, ◌+◌, true, List, [], ◌++◌, length, take, All, None, ◌<◌, ◌≤◌}
+use Rattle.std.specs.List.{Any}
 use Rattle.byte_classes.specs.LineEnds.{line_ends}
 use Rattle.quote_automaton.specs.declared.state.State.TheVariants.{RowStart}
 use Rattle.quote_automaton.specs.Automaton.{state_after}
 use Rattle.part_cuts.specs.declared.cut_rule.CutRule.{CutRule}
 use Rattle.part_cuts.specs.declared.tally.Tally.{Tally}
-use Rattle.part_cuts.specs.Cut.{is_cut}
+use Rattle.part_cuts.specs.Cut.{is_cut, multiple_behind}
 use Rattle.part_cuts.specs.Passed.{rows_begun}
 use Rattle.part_cuts.specs.Reading.{Reading, reading, reading_from}
 
@@ -37,3 +38,12 @@ pub record IsPartStart (rule : CutRule) (bytes lines : ℕ) (text : List ℕ) (t
 -- so does each part
 abbrev pub PartsBeginAtCuts : Type 0
 PartsBeginAtCuts = (rule : CutRule) (bytes lines : ℕ) (text : List ℕ) → All (IsPartStart rule bytes lines text) (reading (reading_from rule bytes lines) text []).starts
+
+-- a start at or before a place, its next multiple behind the place
+abbrev pub Covers : ℕ → ℕ → Tally → Type 0
+Covers size place t = (t.bytes ≤ place) × (place < multiple_behind size t.bytes)
+
+-- no cut is missed: up to each cut no multiple lies behind the start of its part
+abbrev pub NoCutIsMissed : Type 0
+NoCutIsMissed = (rule : CutRule) (bytes lines : ℕ) (front back : List ℕ) → 0 < rule.size → is_cut rule.dialect (state_after rule.dialect RowStart front) back ≡ true →
+    Any (Covers rule.size (bytes + length front)) (reading (reading_from rule bytes lines) (front ++ back) []).starts
