@@ -1,5 +1,5 @@
 //! Where the parts of a file begin.
-ghost use Rattle.std.specs.Prelude.{◌≡◌, ℕ, ◌+◌, ◌<◌, ◌≤◌, ◌^◌, ◌⊎◌, length, take, drop, MatchResult, OnOk, OnErr, true, Some, slice_get};
+ghost use Rattle.std.specs.Prelude.{◌≡◌, ℕ, ◌+◌, ◌<◌, ◌≤◌, ◌^◌, ◌⊎◌, length, take, drop, IfOk, MatchResult, OnOk, OnErr, true, Some, slice_get};
 
 use crate::cut_rule::CutRule;
 use crate::first_cut::first_cut;
@@ -49,7 +49,7 @@ impl Cuts {
         requires rule { IsCutRule rule }
         requires within { bytes ≤ most_bytes }
         requires fits { lines ≤ bytes }
-        ensures ok { MatchResult result (λ cuts. cuts ≡ reading_from rule bytes lines) (λ _. Unit {0}) }
+        ensures ok { IfOk result (λ cuts. cuts ≡ reading_from rule bytes lines) }
     {
         let tally = Tally {
             bytes,
