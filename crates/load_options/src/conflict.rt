@@ -5,7 +5,7 @@ ghost use Rattle.load_options.specs.Conflicts.{options_in, place_of};
 use crate::given::given_at;
 
 /// Options that can't stand together, or one that can't stand without another or with the command.
-#[derive(Clone, Copy, Debug, PartialEq, Eq)]
+#[derive(Clone, Copy)]
 pub enum Conflict {
     /// A bound on the stored rejects, where none are stored.
     LimitsNoRejects,

@@ -1,7 +1,7 @@
 // The numbers that options take. Code, definitions and messages cite these, so a number of an option stands here alone.
 
 /// The numbers that an option takes, and the one that it has where words give none.
-#[derive(Clone, Copy, Debug, PartialEq, Eq)]
+#[derive(Clone, Copy)]
 pub struct NumberRange {
     pub least: u64,
     pub most: u64,

@@ -4,7 +4,7 @@ ghost use Rattle.load_options.specs.Reasons.{Explains};
 ghost use Rattle.load_options.specs.declared.reason.Reason.TheVariants.{Other};
 
 /// What is wrong with a value. A place is that of a piece, from 0, where the value is cut at each comma.
-#[derive(Clone, Copy, Debug, PartialEq, Eq)]
+#[derive(Clone, Copy)]
 pub enum Reason {
     /// It has more pieces than this.
     TooMany(usize),
