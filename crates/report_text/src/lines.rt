@@ -30,16 +30,14 @@ pub(crate) enum Part<'a> {
 pub(crate) fn push_number(into: &mut Draft, number: u64) -> Result<(), NoMemory>
     ensures { OnOk result (into.new.text ≡ into.old.text ++ decimal number) }
 {
-    into.append(itoa::Buffer::new().format(number).as_bytes())?;
-    Ok(())
+    into.append(itoa::Buffer::new().format(number).as_bytes())
 }
 
 /// Appends bytes as they are.
 pub(crate) fn push_plain(into: &mut Draft, bytes: &[u8]) -> Result<(), NoMemory>
     ensures { OnOk result (into.new.text ≡ into.old.text ++ bytes.now) }
 {
-    into.append(bytes)?;
-    Ok(())
+    into.append(bytes)
 }
 
 /// Appends a part.
@@ -76,8 +74,7 @@ pub(crate) fn push_line(into: &mut Draft, name: &[u8], parts: &[Part<'_>]) -> Re
         into.push(b'|')?;
         push_part(into, *part)?;
     }
-    into.push(b'\n')?;
-    Ok(())
+    into.push(b'\n')
 }
 
 /// Appends the line of how many rows there are.

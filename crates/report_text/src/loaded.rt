@@ -1,6 +1,6 @@
 // The texts of a loaded file.
 ghost use Rattle.std.specs.Prelude.{◌≡◌, ◌++◌, [], IfOk, OnOk};
-ghost use Rattle.report_text.specs.Report.{closing_lines, loaded_lines, report_of};
+ghost use Rattle.report_text.specs.Report.{closing_lines, found_lines, loaded_lines, report_of};
 ghost use Rattle.report_text.specs.Printable.{IsPrintableLoad};
 ghost use Rattle.report_text.specs.declared.outcome.Outcome.TheVariants as outcome;
 
@@ -10,6 +10,7 @@ use crate::lines::{push_errors, push_row_count, push_stats_of};
 use crate::rejects::{push_rejects, stored_count};
 use crate::report_rows::ReportRows;
 use csv_source::NoMemory;
+use std::alloc::Global;
 use text_pieces::{Draft, RowedText, Workers};
 
 /// Appends what stands behind the lines on the rows.
@@ -32,6 +33,18 @@ pub(crate) fn push_summary(into: &mut Draft, loaded: &Loaded, taps: &[u8]) -> Re
     push_closing(into, loaded, taps)
 }
 
+/// What stands before and behind the rows of a loaded file.
+fn texts_round(alloc: Global, loaded: &Loaded) -> Result<(Vec<u8>, Vec<u8>), NoMemory>
+    requires { IsPrintableLoad loaded.now }
+    ensures { IfOk result (λ both. (both.0.items ≡ found_lines loaded.now.sniffed) × (both.1.items ≡ closing_lines loaded.now [])) }
+{
+    let mut head = Draft::new(alloc);
+    push_found(&mut head, &loaded.sniffed)?;
+    let mut tail = Draft::new(alloc);
+    push_closing(&mut tail, loaded, &[])?;
+    Ok((head.into_text(), tail.into_text()))
+}
+
 /// The text of the report of a loaded file: its lines, each ended by LF. The rows are rendered as they are written.
 pub fn render_loaded<R>(
     workers: &Workers<'_, R>,
@@ -40,10 +53,7 @@ pub fn render_loaded<R>(
     requires { IsPrintableLoad loaded }
     ensures { IfOk result (λ text. text ≡ report_of (outcome.Loaded loaded)) }
 {
-    let mut head = Draft::new(workers.alloc);
-    push_found(&mut head, &loaded.sniffed)?;
-    let mut tail = Draft::new(workers.alloc);
-    push_closing(&mut tail, &loaded, &[])?;
-    let rows = ReportRows::new(loaded.table);
-    RowedText::new(workers, head.into_text(), rows, tail.into_text())
+    let (head, tail) = texts_round(workers.alloc, &loaded)?;
+    let rows = ReportRows::new(loaded.into_table());
+    RowedText::new(workers, head, rows, tail)
 }

@@ -48,8 +48,7 @@ fn push_day(into: &mut Draft, x: u64) -> Result<(), NoMemory>
         b'-',
         glyph(day / 10),
         glyph(day % 10),
-    ])?;
-    Ok(())
+    ])
 }
 
 /// What stands before a note's last number: a space, or LF in each sixteenth row.
@@ -68,8 +67,7 @@ fn push_note(into: &mut Draft, row: u64, x: u64) -> Result<(), NoMemory>
     into.append(b"\"\",")?;
     into.push(gap(row))?;
     push_number(into, x)?;
-    into.push(b'"')?;
-    Ok(())
+    into.push(b'"')
 }
 
 /// Appends a row.
@@ -85,8 +83,7 @@ fn push_row(into: &mut Draft, number: u32, row: u64) -> Result<(), NoMemory>
     push_day(into, x)?;
     into.push(b',')?;
     push_note(into, row, x)?;
-    into.push(b'\n')?;
-    Ok(())
+    into.push(b'\n')
 }
 
 /// A valid text from a number: the header `id,ok,day,note` and this many rows. The notes have doubled quotes, and each

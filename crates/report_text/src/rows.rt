@@ -24,10 +24,7 @@ fn push_cell(into: &mut Draft, cell: Cell<'_>) -> Result<(), NoMemory>
     ensures { OnOk result (into.new.text ≡ into.old.text ++ cell_text (datum_of cell.entry)) }
 {
     match cell {
-        Cell::Null => {
-            into.append(b"\\N")?;
-            Ok(())
-        }
+        Cell::Null => into.append(b"\\N"),
         Cell::Value(value) => {
             into.put_value(&value);
             Ok(())

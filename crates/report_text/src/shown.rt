@@ -25,8 +25,7 @@ fn hex_digit(value: u8) -> u8
 fn push_hex(into: &mut Draft, byte: u8) -> Result<(), NoMemory>
     ensures { OnOk result (into.new.text ≡ into.old.text ++ hex_digits byte) }
 {
-    into.append(&[hex_digit(byte / 16), hex_digit(byte % 16)])?;
-    Ok(())
+    into.append(&[hex_digit(byte / 16), hex_digit(byte % 16)])
 }
 
 /// Appends a byte as it is shown.
@@ -34,18 +33,17 @@ pub(crate) fn push_shown_byte(into: &mut Draft, byte: u8) -> Result<(), NoMemory
     ensures { OnOk result (into.new.text ≡ into.old.text ++ shown_byte byte) }
 {
     match byte {
-        b'\\' => into.append(b"\\\\")?,
-        b'|' => into.append(b"\\|")?,
-        b'\n' => into.append(b"\\n")?,
-        b'\r' => into.append(b"\\r")?,
-        b'\t' => into.append(b"\\t")?,
+        b'\\' => into.append(b"\\\\"),
+        b'|' => into.append(b"\\|"),
+        b'\n' => into.append(b"\\n"),
+        b'\r' => into.append(b"\\r"),
+        b'\t' => into.append(b"\\t"),
         0..=31 | 127 => {
             into.append(b"\\x")?;
-            push_hex(into, byte)?;
+            push_hex(into, byte)
         }
-        _ => into.push(byte)?,
+        _ => into.push(byte),
     }
-    Ok(())
 }
 
 /// Appends the bytes from `at` on up to the first that is spelled, and that one; answers the place behind it.

@@ -1,6 +1,7 @@
 use Rattle.std.proofs.Common.{List, ℕ, [], ◌∷◌, ◌++◌, ap, sym, ◌∙◌, append_assoc, arith}
 use Rattle.std.specs.Prelude.{flat_map}
 use Rattle.std.proofs.lemmas.List.{take_all}
+use Rattle.std.proofs.lemmas.Result.{on_ok_weaker}
 use Rattle.report_text.specs.Part.{part_text}
 use Rattle.report_text.proofs.Texts.{join-flat_map}
 use Rattle.report_text.proofs.lines.push_line.Goals as goal
@@ -10,8 +11,8 @@ returns c =
     let before : List ℕ = c.args.into.now.text in
     let name : List ℕ = c.args.name.now in
     let parts = c.args.parts.now in
-    c.in_ok-push-2.ensures.ok
+    on_ok_weaker c.push-2.result (λ is. is
     ∙ ap (λ xs. xs ++ 10 ∷ [])
     (c.loop-part.invariant ∙ ap (λ ps. before ++ (name ++ flat_map (λ part. 124 ∷ part_text part) ps)) (take_all c.loop-part.part-index parts (omega arith))
     ∙ ap (λ xs. before ++ xs) (sym (join-flat_map 124 part_text name parts)))
-    ∙ append_assoc before _ (10 ∷ [])
+    ∙ append_assoc before _ (10 ∷ [])) c.push-2.ensures.ok

@@ -1,4 +1,4 @@
-use Rattle.std.proofs.Common.{◌≡◌, ◌++◌, List, [], ℕ, ap, ◌∙◌, subst, sym}
+use Rattle.std.proofs.Common.{◌≡◌, ◌++◌, List, [], ℕ, map, ap, ◌∙◌, subst, sym}
 use Rattle.std.specs.Prelude.{All, flat_map}
 use Rattle.std.specs.List.{concat}
 use Rattle.std.proofs.lemmas.Result.{IfOk-weaker}
@@ -13,7 +13,8 @@ use Rattle.report_text.proofs.loaded.render_loaded.Goals as goal
 pub new-rows-requires : goal.new-rows-requires
 new-rows-requires g c =
     let loaded = c.args.loaded in
-    subst (λ tys. All (IsPrintableRow tys) loaded.table.rows) (sym c.requires.types) (printable_rows loaded.sniffed.types loaded.table.rows c.requires.rows c.requires.values)
+    subst (λ table. All (IsPrintableRow table.types) table.rows) (sym c.into_table.ensures)
+    (subst (λ tys. All (IsPrintableRow tys) loaded.table.rows) (sym c.requires.types) (printable_rows loaded.sniffed.types loaded.table.rows c.requires.rows c.requires.values))
 
 pub returns : goal.returns
 returns g c =
@@ -21,9 +22,8 @@ returns g c =
     let found : List ℕ = found_lines loaded.sniffed in
     let rows : List (List Datum) = loaded.table.rows in
     let closing : List ℕ = closing_lines loaded [] in
-    let head : List ℕ = c.into_text.result.items in
-    let tail : List ℕ = c.into_text-2.result.items in
-    let head_is : head ≡ found = c.into_text.ensures ∙ c.in_ok-push_found.ensures ∙ ap (λ xs. xs ++ found) c.new-head.ensures in
-    let tail_is : tail ≡ closing = c.into_text-2.ensures ∙ c.in_ok-push_closing.ensures ∙ ap (λ xs. xs ++ closing) c.new-tail.ensures in
-    let text_is = joined head found tail closing c.new-rows.result rows head_is c.new-rows.ensures tail_is in
+    let head : List ℕ = c.in_ok-head.head.items in
+    let tail : List ℕ = c.in_ok-head.tail.items in
+    let made = c.new-rows.ensures ∙ ap (λ table. map row_line table.rows) c.into_table.ensures in
+    let text_is = joined head found tail closing c.new-rows.result rows c.in_ok-head.ensures.0 made c.in_ok-head.ensures.1 in
     IfOk-weaker c.new.result (λ text. text ≡ head ++ (concat c.new-rows.result ++ tail)) (λ text. text ≡ (found ++ flat_map row_line rows) ++ closing) (λ text is. is ∙ text_is) c.new.ensures

@@ -1,5 +1,6 @@
 use Rattle.std.proofs.Common.{◌≡◌, ◌∷◌, [], ◌++◌, ◌%◌, ◌==◌, ℕ, List, rules, ap, ◌∙◌, append_assoc}
 use Rattle.std.specs.List.{join_with_byte}
+use Rattle.std.proofs.lemmas.Result.{on_ok_weaker}
 use Rattle.std.specs.Fmt.{decimal}
 use Rattle.value_types.specs.ValueText.{truth_text}
 use Rattle.report_text.specs.MadeText.{made_day, made_note}
@@ -15,7 +16,7 @@ pub returns : goal.returns
 returns c =
     let before : List ℕ = c.args.into.now.text in
     let row : ℕ = c.args.row in
-    joined before _ _ _ _ _ _ _ _ _ _ _ _
+    on_ok_weaker c.push-4.result (λ is. joined before _ _ _ _ _ _ _ _ _ _ _ _
     c.in_ok-push_number.ensures c.in_ok-push.ensures.ok (c.in_ok-append.ensures.ok ∙ ap (λ b. c.push.new.self.text ++ b) c.truth_text.ensures) c.in_ok-push-2.ensures.ok
-    c.in_ok-push_day.ensures c.in_ok-push-3.ensures.ok c.in_ok-push_note.ensures c.in_ok-push-4.ensures.ok
-    ∙ ap (λ x. before ++ (join_with_byte 44 (decimal row ∷ truth_text (x % 2 == 1) ∷ made_day x ∷ made_note row x ∷ []) ++ 10 ∷ [])) c.row_number-x.ensures.value
+    c.in_ok-push_day.ensures c.in_ok-push-3.ensures.ok c.in_ok-push_note.ensures is
+    ∙ ap (λ x. before ++ (join_with_byte 44 (decimal row ∷ truth_text (x % 2 == 1) ∷ made_day x ∷ made_note row x ∷ []) ++ 10 ∷ [])) c.row_number-x.ensures.value) c.push-4.ensures.ok
