@@ -8,7 +8,7 @@ ghost use Rattle.value_types.specs.Digits.{is_numeral, natural_of};
 use crate::words::{digit_count, digits_at, word_at};
 
 /// A number that the bytes from a place on spell, and the place behind its last digit.
-#[derive(Clone, Copy, Debug, PartialEq, Eq)]
+#[derive(Clone, Copy)]
 pub struct FrontNumber {
     pub number: i64,
     pub end: usize,

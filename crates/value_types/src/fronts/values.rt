@@ -14,21 +14,21 @@ use crate::times::{stamp, time};
 use crate::words::{digit_count, word_at};
 
 /// A truth value that the bytes from a place on spell, and the place behind its last byte.
-#[derive(Clone, Copy, Debug, PartialEq, Eq)]
+#[derive(Clone, Copy)]
 pub struct FrontTruth {
     pub truth: bool,
     pub end: usize,
 }
 
 /// A day that the bytes from a place on spell, and the place behind its last byte.
-#[derive(Clone, Copy, Debug, PartialEq, Eq)]
+#[derive(Clone, Copy)]
 pub struct FrontDay {
     pub day: i32,
     pub end: usize,
 }
 
 /// The microseconds of a time or a stamp that the bytes from a place on spell, and the place behind its last byte.
-#[derive(Clone, Copy, Debug, PartialEq, Eq)]
+#[derive(Clone, Copy)]
 pub struct FrontMicros {
     pub micros: i64,
     pub end: usize,
