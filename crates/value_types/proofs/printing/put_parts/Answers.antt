@@ -3,6 +3,13 @@ use Rattle.std.proofs.lemmas.List.{length-set, take_more_set}
 use Rattle.value_types.specs.ValueText.{date_text, time_text}
 use Rattle.value_types.proofs.printing.put_parts.Goals as goal
 
+pub put_clock-requires-clause-room : goal.put_clock-requires-clause-room
+put_clock-requires-clause-room c =
+    omega (arith, length-set c.put_date-end.new.into c.put_date-end.result 32, c.put_date-end.ensures.end, c.put_date-end.ensures.same, c.requires.room)
+
+pub returns-clause-within : goal.returns-clause-within
+returns-clause-within c = omega (arith, c.put_clock.ensures.within, c.put_date-end.ensures.end)
+
 pub returns-clause-text : goal.returns-clause-text
 returns-clause-text c =
     let before = take c.args.at c.args.into.now in
