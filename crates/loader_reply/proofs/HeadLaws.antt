@@ -1,6 +1,6 @@
 -- A head that goes on behind its sample has the sample of the whole input.
 use Rattle.std.proofs.Common.{◌≡◌, ◌⊎◌, inl, inr, ℕ, zero, suc, ◌+◌, ◌<◌, ◌≤◌, Bool, true, false, cond, List, [], ◌∷◌, ◌++◌, length, take, drop, refl, sym, ◌∙◌, ap, arith, append-nil, length-append, length-drop}
-use Rattle.std.specs.Prelude.{◌==◌, nat_eq, unwrap_or}
+use Rattle.std.specs.Prelude.{◌==◌, nat_eq, option_map, unwrap_or}
 use Rattle.std.specs.List.{starts_with}
 use Rattle.std.proofs.lemmas.Bool.{lt-leb}
 use Rattle.std.proofs.lemmas.List.{take-append-le, drop-append-le}
@@ -140,8 +140,8 @@ pub sniffed_in_head : (o : Options) (head rest : List ℕ) → (rest ≡ []) ⊎
 sniffed_in_head o head rest (inl none) = ap (sniffed_outcome o) (ap (λ r. head ++ r) none ∙ append-nil head)
 sniffed_in_head o head rest (inr far) =
     let same : found o (head ++ rest) ≡ found o head = found_behind o.skip head rest far o refl in
-    (λ i. unwrap_or (no_column o (same i)) (cond o.explain (outcomes.Explained (same i) (explanation o (head ++ rest) (same i))) (outcomes.Sniffed (same i))))
-    ∙ (λ i. unwrap_or (no_column o (found o head)) (cond o.explain (outcomes.Explained (found o head) (explained-more o.skip head rest far o (found o head) i)) (outcomes.Sniffed (found o head))))
+    (λ i. unwrap_or (option_map (λ m. outcomes.Mismatch m) (no_column o (same i))) (cond o.explain (outcomes.Explained (same i) (explanation o (head ++ rest) (same i))) (outcomes.Sniffed (same i))))
+    ∙ (λ i. unwrap_or (option_map (λ m. outcomes.Mismatch m) (no_column o (found o head))) (cond o.explain (outcomes.Explained (found o head) (explained-more o.skip head rest far o (found o head) i)) (outcomes.Sniffed (found o head))))
 
 pub found_in_head : (o : Options) (head rest : List ℕ) → (rest ≡ []) ⊎ GoesBehindSample o.skip head →
     (found o (head ++ rest) ≡ found o head) × ((s : Sniffed) → data_place o (head ++ rest) s ≡ data_place o head s) × ((s : Sniffed) → place_under o s (head ++ rest) ≡ place_under o s head)

@@ -11,6 +11,7 @@ use Rattle.csv_sniffer.specs.NamedTypes.{missing_name, type_given}
 use Rattle.csv_sniffer.specs.Sample.{start_of_sample, sample_of, is_whole}
 use Rattle.csv_sniffer.specs.declared.found.Sniffed.{Sniffed}
 use Rattle.csv_sniffer.proofs.NamedLaws.{named_as_listed}
+use Rattle.report_text.specs.declared.outcome.Mismatch.{Mismatch}
 use Rattle.report_text.specs.declared.outcome.Mismatch.TheVariants.{NoColumn}
 use Rattle.report_text.specs.declared.outcome.Outcome.{Outcome}
 use Rattle.report_text.specs.declared.outcome.Outcome.TheVariants as outcomes
@@ -41,9 +42,11 @@ module _ (o : Options) (types : List ColumnType) (s : Sniffed) (taps : List Seen
 
   loaded_alike : (answer : Answer) (load : Load) → missing_name o.column_types s.names ≡ None → load_reply answer (listed o types) s taps load ≡ load_reply answer o s taps load
   loaded_alike answer load none =
-      let others : Option Outcome = option_or (too_many_columns answer s) (too_many_faults o.max_errors load) in
-      ap (λ r. unless_refused r others) (answered_alike answer load)
-      ∙ ap (λ name. unless_refused (whole_or_error answer o s taps load) (option_or (option_map (λ n. outcomes.Mismatch (NoColumn n s.names)) name) others)) (sym none)
+      let wide : Option Mismatch = too_many_columns answer s in
+      let faults : Option Outcome = option_map (λ bound. outcomes.TooManyFaults bound) (too_many_faults o.max_errors load) in
+      let refused : Option Mismatch → Option Outcome = λ m. option_or (option_map (λ x. outcomes.Mismatch x) m) faults in
+      ap (λ r. unless_refused r (refused wide)) (answered_alike answer load)
+      ∙ ap (λ name. unless_refused (whole_or_error answer o s taps load) (refused (option_or (option_map (λ n. NoColumn n s.names) name) wide))) (sym none)
 
 listed_is_found : (o : Options) (input : List ℕ) (types : List ColumnType) → IsAccepted o → map (type_given o.column_types) (found o input).names ≡ map Some types →
     (found (listed o types) input).header ≡ (found o input).header → found (listed o types) input ≡ found o input

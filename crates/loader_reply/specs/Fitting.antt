@@ -7,6 +7,7 @@ use Rattle.csv_sniffer.specs.declared.found.Sniffed.{Sniffed}
 use Rattle.csv_sniffer.specs.NamedTypes.{missing_name}
 use Rattle.load_options.specs.declared.options.Options.{Options}
 use Rattle.report_text.specs.BatchReport.{all_in}
+use Rattle.report_text.specs.declared.outcome.Mismatch.{Mismatch}
 use Rattle.report_text.specs.declared.outcome.Mismatch.TheVariants.{NoColumn, TooManyColumns}
 use Rattle.report_text.specs.declared.outcome.Outcome.{Outcome}
 use Rattle.report_text.specs.declared.outcome.Outcome.TheVariants as outcomes
@@ -38,26 +39,31 @@ is_database answers.Batch = false
 -- ---- what comes before an answer
 
 -- the type of a column is given that isn't there
-abbrev pub no_column : Options → Sniffed → Option Outcome
-no_column o s = option_map (λ name. outcomes.Mismatch (NoColumn name s.names)) (missing_name o.column_types s.names)
+abbrev pub no_column : Options → Sniffed → Option Mismatch
+no_column o s = option_map (λ name. NoColumn name s.names) (missing_name o.column_types s.names)
 
 -- a table of the answer can't have the columns that were found
-abbrev pub too_many_columns : Answer → Sniffed → Option Outcome
-too_many_columns answer s = then_some (is_database answer && is_too_wide s) (outcomes.Mismatch (TooManyColumns COLUMN_LIMIT))
+abbrev pub too_many_columns : Answer → Sniffed → Option Mismatch
+too_many_columns answer s = then_some (is_database answer && is_too_wide s) (TooManyColumns COLUMN_LIMIT)
+
+-- the words don't fit what was found
+abbrev pub mismatch : Answer → Options → Sniffed → Option Mismatch
+mismatch answer o s = option_or (no_column o s) (too_many_columns answer s)
 
 -- the bound on faults, where there are more of them
 abbrev pub passed_bound : Option ℕ → ℕ → Option ℕ
 passed_bound None faults = None
 passed_bound (Some bound) faults = if nat_lt bound faults then Some bound else None
 
--- files that are loaded whole have more faults than the bound
-abbrev pub too_many_faults : Option ℕ → Load → Option Outcome
-too_many_faults bound (loads.Whole batch stats) = option_map (λ n. outcomes.TooManyFaults n) (passed_bound bound (all_in batch.files))
+-- the bound on faults, where files that are loaded whole have more of them
+abbrev pub too_many_faults : Option ℕ → Load → Option ℕ
+too_many_faults bound (loads.Whole batch stats) = passed_bound bound (all_in batch.files)
 too_many_faults bound (loads.FirstError reject) = None
 too_many_faults bound (loads.OtherHeader file) = None
 
 abbrev pub refusal : Answer → Options → Sniffed → Load → Option Outcome
-refusal answer o s load = option_or (no_column o s) (option_or (too_many_columns answer s) (too_many_faults o.max_errors load))
+refusal answer o s load =
+    option_or (option_map (λ m. outcomes.Mismatch m) (mismatch answer o s)) (option_map (λ bound. outcomes.TooManyFaults bound) (too_many_faults o.max_errors load))
 
 -- ---- what an answer rests on
 

@@ -1,12 +1,12 @@
 // How a run ended, with what was found out.
-ghost use Rattle.std.specs.Prelude.{◌≡◌, ◌≢◌, ◌==◌, IfOk};
+ghost use Rattle.std.specs.Prelude.{◌≡◌, ◌≢◌, ◌==◌};
+ghost use Rattle.report_text.specs.Report.{faults_in};
 ghost use Rattle.report_text.specs.declared.outcome.Outcome.TheVariants as outcomes;
 ghost use Rattle.loader_reply.specs.Ending.{ending_code, ending_of, ending_status, status_code};
 ghost use Rattle.loader_reply.specs.declared.status.Status.TheVariants as statuses;
 
 use crate::status::Status;
 use csv_sniffer::{Noticed, Sniffed};
-use csv_source::NoMemory;
 use load_options::WordFault;
 use reject_book::Reject;
 use report_text::{Mismatch, Outcome};
@@ -38,15 +38,16 @@ pub enum Ending {
 }
 
 impl Ending {
-    /// The ending that goes with an outcome, once its report is written.
-    pub(crate) fn of(outcome: Outcome) -> Result<Ending, NoMemory>
-        ensures ok { IfOk result (λ ending. ending ≡ ending_of outcome) }
+    /// The ending that goes with an outcome of so many faults, once its report is written.
+    pub(crate) fn of(outcome: Outcome, faults: u64) -> Ending
+        requires { faults ≡ faults_in outcome }
+        ensures { result ≡ ending_of outcome }
     {
         match outcome {
-            Outcome::Mismatch(mismatch) => Ok(Ending::Mismatch(mismatch)),
-            Outcome::FirstError(sniffed, reject) => Ok(Ending::FirstError(sniffed, reject)),
+            Outcome::Mismatch(mismatch) => Ending::Mismatch(mismatch),
+            Outcome::FirstError(sniffed, reject) => Ending::FirstError(sniffed, reject),
             other => {
-                let ending = Ending::told(&other);
+                let ending = Ending::told(&other, faults);
                 // As one value: where a scope's end lets it go, the proof goes through the parts of each variant.
                 drop(other);
                 ending
@@ -55,24 +56,22 @@ impl Ending {
     }
 
     /// The ending of an outcome of which no part is kept.
-    fn told(outcome: &Outcome) -> Result<Ending, NoMemory>
+    fn told(outcome: &Outcome, faults: u64) -> Ending
+        requires counted { faults ≡ faults_in outcome.now }
         requires fits { (mismatch : _) → outcome.now ≢ outcomes.Mismatch mismatch }
         requires passed { (s : _) (reject : _) → outcome.now ≢ outcomes.FirstError s reject }
-        ensures ok { IfOk result (λ ending. ending ≡ ending_of outcome.now) }
+        ensures { result ≡ ending_of outcome.now }
     {
         match outcome {
-            Outcome::Refused(fault, _) => Ok(Ending::Refused(*fault)),
-            Outcome::ReadFault => Ok(Ending::ReadFault),
-            Outcome::TooLarge(limit) => Ok(Ending::TooLarge(*limit)),
-            Outcome::TooManyFaults(bound) => Ok(Ending::TooManyFaults(*bound)),
+            Outcome::Refused(fault, _) => Ending::Refused(*fault),
+            Outcome::ReadFault => Ending::ReadFault,
+            Outcome::TooLarge(limit) => Ending::TooLarge(*limit),
+            Outcome::TooManyFaults(bound) => Ending::TooManyFaults(*bound),
             Outcome::Sniffed(sniffed)
             | Outcome::Explained(sniffed, _)
-            | Outcome::Batch(sniffed, ..) => {
-                Ok(Ending::Answered(outcome.faults()?, Some(sniffed.noticed)))
-            }
+            | Outcome::Batch(sniffed, ..) => Ending::Answered(faults, Some(sniffed.noticed)),
             Outcome::Loaded(loaded) | Outcome::Summary(loaded, _) => {
-                let noticed = loaded.sniffed.noticed;
-                Ok(Ending::Answered(outcome.faults()?, Some(noticed)))
+                Ending::Answered(faults, Some(loaded.sniffed.noticed))
             }
             Outcome::Mismatch(_) | Outcome::FirstError(..) => unreachable!(),
         }

@@ -1,7 +1,7 @@
 // Whether what files come to is as the options want it.
 ghost use Rattle.load_options.specs.Accepted.{IsAccepted};
 ghost use Rattle.std.specs.Prelude.{◌≡◌, map, IfOk, IfSome};
-ghost use Rattle.loader_reply.specs.Fitting.{is_database, no_column, passed_bound, refusal, too_many_faults, IsAnswerable};
+ghost use Rattle.loader_reply.specs.Fitting.{is_database, mismatch, no_column, passed_bound, refusal, too_many_faults, IsAnswerable};
 ghost use Rattle.loader_reply.specs.Reply.{IsShort, load_reply, whole_or_error};
 
 use crate::answering::Answer;
@@ -37,33 +37,41 @@ fn passed_bound(bound: Option<u64>, faults: u64) -> Option<u64>
     }
 }
 
-/// The outcome of files that are loaded whole and have more faults than the bound.
-fn too_many_faults(bound: Option<u64>, load: &Load) -> Result<Option<Outcome>, NoMemory>
-    ensures ok { IfOk result (λ outcome. outcome ≡ too_many_faults bound load.now) }
-    ensures short { IfOk result (λ outcome. IfSome outcome IsShort) }
+/// The bound, where files that are loaded whole have more faults.
+fn too_many_faults(bound: Option<u64>, load: &Load) -> Result<Option<u64>, NoMemory>
+    ensures ok { IfOk result (λ passed. passed ≡ too_many_faults bound load.now) }
 {
-    let Load::Whole(batch, _) = load else {
-        return Ok(None);
-    };
-    match passed_bound(bound, all_in(batch)?) {
-        Some(bound) => Ok(Some(Outcome::TooManyFaults(bound))),
-        None => Ok(None),
+    match load {
+        Load::Whole(batch, _) => Ok(passed_bound(bound, all_in(batch)?)),
+        Load::FirstError(_) | Load::OtherHeader(_) => Ok(None),
     }
 }
 
 impl<'a, R, G> Loader<'a, R, G> {
-    /// The outcome where the type of a column is given that isn't there.
-    pub fn no_column(&self, sniffed: &Sniffed) -> Result<Option<Outcome>, NoMemory>
-        ensures ok { IfOk result (λ outcome. outcome ≡ no_column self.now.options.now sniffed.now) }
-        ensures short { IfOk result (λ outcome. IfSome outcome IsShort) }
+    /// How the words don't fit what was found, where the type of a column is given that isn't there.
+    pub fn no_column(&self, sniffed: &Sniffed) -> Result<Option<Mismatch>, NoMemory>
+        ensures ok { IfOk result (λ mismatch. mismatch ≡ no_column self.now.options.now sniffed.now) }
     {
         let given = &self.options.column_types;
         let Some(name) = missing_name(self.alloc, given, &sniffed.names)? else {
             return Ok(None);
         };
-        let name = Bytes::copy_of(self.alloc, name)?;
         let names = Names::copy_of(self.alloc, &sniffed.names)?;
-        Ok(Some(Outcome::Mismatch(Mismatch::NoColumn(name, names))))
+        let name = Bytes::copy_of(self.alloc, name)?;
+        Ok(Some(Mismatch::NoColumn(name, names)))
+    }
+
+    /// How the words don't fit what was found, where they don't.
+    fn mismatch(&self, answer: Answer, sniffed: &Sniffed) -> Result<Option<Mismatch>, NoMemory>
+        ensures ok { IfOk result (λ found. found ≡ mismatch answer self.now.options.now sniffed.now) }
+    {
+        if let Some(mismatch) = self.no_column(sniffed)? {
+            return Ok(Some(mismatch));
+        }
+        if is_database(answer) && is_too_wide(sniffed) {
+            return Ok(Some(Mismatch::TooManyColumns(COLUMN_LIMIT as u64)));
+        }
+        Ok(None)
     }
 
     /// The outcome that comes before an answer to files.
@@ -71,14 +79,13 @@ impl<'a, R, G> Loader<'a, R, G> {
         ensures ok { IfOk result (λ outcome. outcome ≡ refusal answer self.now.options.now files.now.sniffed files.now.load) }
         ensures short { IfOk result (λ outcome. IfSome outcome IsShort) }
     {
-        if let Some(outcome) = self.no_column(&files.sniffed)? {
-            return Ok(Some(outcome));
+        if let Some(mismatch) = self.mismatch(answer, &files.sniffed)? {
+            return Ok(Some(Outcome::Mismatch(mismatch)));
         }
-        if is_database(answer) && is_too_wide(&files.sniffed) {
-            let limit = COLUMN_LIMIT as u64;
-            return Ok(Some(Outcome::Mismatch(Mismatch::TooManyColumns(limit))));
+        match too_many_faults(self.options.max_errors, &files.load)? {
+            Some(bound) => Ok(Some(Outcome::TooManyFaults(bound))),
+            None => Ok(None),
         }
-        too_many_faults(self.options.max_errors, &files.load)
     }
 }
 

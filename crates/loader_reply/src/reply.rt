@@ -1,7 +1,8 @@
 // The reply to words: how the run ends, and a text.
 ghost use Rattle.std.specs.Prelude.{◌≡◌, ◌≤◌, IfOk};
 ghost use Rattle.loader_reply.specs.Reply.{IsShort, outcome_reply, reply};
-ghost use Rattle.loader_reply.specs.Ending.{ending_code, ending_of};
+ghost use Rattle.report_text.specs.Report.{faults_in, report_of};
+ghost use Rattle.loader_reply.specs.Ending.{ending_code};
 ghost use Rattle.loader_reply.specs.Replying.{IsEndingOf, IsWritten};
 ghost use Rattle.loader_reply.specs.ReplyText.{text_of};
 
@@ -31,6 +32,14 @@ impl Model for Reply {
     ghost view = { λ r. record { status = ending_code r.ending; text = text_of r.text; ending = r.ending } };
 }
 
+/// The faults that an outcome without rows tells of, and its report.
+fn counted_report(alloc: Global, outcome: &Outcome) -> Result<(u64, Pieces), NoMemory>
+    requires { IsShort outcome.now }
+    ensures { IfOk result (λ told. (told.0 ≡ faults_in outcome.now) × (told.1 ≡ report_of outcome.now)) }
+{
+    Ok((outcome.faults()?, render(alloc, outcome)?))
+}
+
 impl Reply {
     /// An ending and its text.
     pub(crate) fn new(ending: Ending, text: ReplyText) -> Reply
@@ -44,23 +53,16 @@ impl Reply {
         requires { IsShort outcome }
         ensures { IfOk result (λ r. r ≡ outcome_reply outcome) }
     {
-        match render(alloc, &outcome) {
-            Ok(text) => Reply::told(outcome, text),
+        match counted_report(alloc, &outcome) {
+            Ok((faults, text)) => Ok(Reply::new(
+                Ending::of(outcome, faults),
+                ReplyText::Whole(text),
+            )),
             Err(NoMemory) => {
                 // As one value, as in `Ending::of`.
                 drop(outcome);
                 Err(NoMemory)
             }
-        }
-    }
-
-    /// The ending that goes with an outcome, with a text.
-    fn told(outcome: Outcome, text: Pieces) -> Result<Reply, NoMemory>
-        ensures { IfOk result (λ r. r ≡ reply (ending_of outcome) text) }
-    {
-        match Ending::of(outcome) {
-            Ok(ending) => Ok(Reply::new(ending, ReplyText::Whole(text))),
-            Err(NoMemory) => Err(NoMemory),
         }
     }
 
@@ -75,7 +77,10 @@ impl Reply {
         sink.begin(ending.is_answered());
         match text.write(rt, sink) {
             Ok(()) => ending,
-            Err(Failed) => Ending::WriteFault,
+            Err(Failed) => {
+                drop(ending);
+                Ending::WriteFault
+            }
         }
     }
 }

@@ -48,7 +48,12 @@ fn show_chunk(
 }
 
 /// Shows the rows of a table to each tap.
-fn show_rows(alloc: Global, slots: &mut [Slot], table: &Table) -> Result<(), NoMemory>
+fn show_rows(
+    alloc: Global,
+    slots: &mut [Slot],
+    table: &Table,
+    cells: &mut Cells,
+) -> Result<(), NoMemory>
     requires fits { All (λ cells. fit_all table.now.types cells ≡ true) table.now.rows }
     requires new { AreNew (λ v x. (⟦<dyn RowTap as RowTap>⟧ v).seen x) slots.old }
     ensures ok { let courses = map (course_in (λ v x. (⟦<dyn RowTap as RowTap>⟧ v).seen x)) in
@@ -58,14 +63,13 @@ fn show_rows(alloc: Global, slots: &mut [Slot], table: &Table) -> Result<(), NoM
     if !is_countable(table) {
         return Err(NoMemory);
     }
-    let mut cells = Cells::new(alloc);
     let mut number = 1;
     let (earlier, last) = table.chunks();
     for chunk in earlier {
-        show_chunk(alloc, slots, number, chunk, &mut cells)?;
+        show_chunk(alloc, slots, number, chunk, cells)?;
         number += chunk.rows() as u64;
     }
-    show_chunk(alloc, slots, number, last, &mut cells)?;
+    show_chunk(alloc, slots, number, last, cells)?;
     Ok(())
 }
 
@@ -91,7 +95,11 @@ pub fn tap_lines(
     ensures ok { IfOk result (λ lines. lines.items ≡ tap_lines (map seen taps.items) table.now.rows) }
 {
     let mut slots = slots_of(alloc, taps)?;
-    show_rows(alloc, &mut slots, table)?;
+    let mut cells = Cells::new(alloc);
+    let shown = show_rows(alloc, &mut slots, table, &mut cells);
+    // As one value, as in `Ending::of`.
+    drop(cells);
+    shown?;
     let mut lines = Vec::new(alloc);
     write_slots(&slots, &mut lines)?;
     Ok(lines)
