@@ -1,13 +1,14 @@
 -- A reply, against what came of the files as they were opened.
 use Rattle.std.proofs.Common.{◌≡◌, ◌⊎◌, ℕ, Bool, true, false, cond, List, [], ◌∷◌, Option, None, Some, Ok, Err, refl, sym, ap, ◌∙◌, subst, inl, inr}
-use Rattle.std.specs.Prelude.{option_map, unwrap_or, ◌&&◌}
+use Rattle.std.specs.Prelude.{option_map, unwrap_or, ◌&&◌, ⊤}
 use Rattle.std.specs.Bool.{then_some}
 use Rattle.std.specs.Option.{option_or}
 use Rattle.std.specs.List.{filter_map}
 use Rattle.csv_source.specs.Causes.{Rose}
 use Rattle.load_options.specs.declared.options.Command.{Command}
 use Rattle.load_options.specs.declared.options.Command.TheVariants.{Load as load_command, Sniff, Summary, Convert, Rejects, Batch, Make}
-use Rattle.load_options.specs.FileNames.{file_names}
+use Rattle.load_options.specs.Commands.{is_make}
+use Rattle.load_options.specs.Formats.{is_sqlite}
 use Rattle.load_options.specs.declared.options.Options.{Options}
 use Rattle.load_options.specs.declared.options.Request.{Request}
 use Rattle.load_options.specs.declared.words.WordFault.{WordFault}
@@ -17,7 +18,6 @@ use Rattle.csv_sniffer.specs.declared.found.Sniffed.{Sniffed}
 use Rattle.csv_sniffer.specs.Explanation.{explanation}
 use Rattle.csv_sniffer.specs.Input.{found}
 use Rattle.csv_sniffer.specs.NamedTypes.{missing_name}
-use Rattle.report_text.specs.BatchReport.{all_in}
 use Rattle.column_taps.specs.Seen.{Seen}
 use Rattle.file_list.specs.BatchView.{BatchView}
 use Rattle.report_text.specs.MadeText.{made_text}
@@ -35,11 +35,13 @@ use Rattle.loader_reply.specs.declared.batch.Load.{Load}
 use Rattle.loader_reply.specs.declared.batch.Load.TheVariants as loads
 use Rattle.loader_reply.specs.declared.database.TheConstants.{COLUMN_LIMIT}
 use Rattle.loader_reply.specs.declared.ending.Ending.TheVariants as endings
+use Rattle.loader_reply.specs.declared.replying.Asked.{Asked}
+use Rattle.loader_reply.specs.declared.replying.Asked.TheVariants as asks
 use Rattle.loader_reply.specs.Batch.{batch_refusal, load_of, AreRead, IsLoadOf, IsOver, IsReadWhole, LacksOne}
 use Rattle.loader_reply.specs.Replying.{IsAnswer, IsReplyBy, IsReplyTo, IsStopReply, input_limit}
 use Rattle.loader_reply.specs.Databases.{is_too_wide}
-use Rattle.loader_reply.specs.Fitting.{is_database, passed_bound, refusal, too_many_columns, too_many_faults}
-use Rattle.loader_reply.specs.Reply.{Reply, reply, outcome_reply, in_format, inputs_reply, load_reply, loaded_of, without_spare, opened_reply, request_reply, command_names, sniffed_outcome, sniffed_reply, unless_refused, whole_or_error, whole_reply, words_names, words_reply}
+use Rattle.loader_reply.specs.Fitting.{is_database, is_of_one, refusal, too_many_columns, too_many_faults}
+use Rattle.loader_reply.specs.Reply.{Reply, reply, asked_by, asked_names, asked_reply, outcome_reply, inputs_reply, load_reply, loaded_of, without_spare, opened_reply, sniffed_outcome, sniffed_reply, unless_refused, whole_or_error, whole_reply, words_names, words_reply}
 use Rattle.loader_reply.specs.SoFar.{Told}
 use Rattle.loader_reply.proofs.FileSteps.{all_read, none_left, none_read, one_more_read}
 
@@ -59,17 +61,13 @@ refusal_answers answer o s load r is = by_name (missing_name o.column_types s.na
   by_bound None = is
   by_bound (Some bound) = inr (inr (inr (inr (inr refl))))
 
-  by_load : (l : Load) → IsAnswer (unless_refused r (too_many_faults o.max_errors l)).status
-  by_load (loads.Whole batch stats) = by_bound (passed_bound o.max_errors (all_in batch.files))
-  by_load (loads.FirstError reject) = is
-  by_load (loads.OtherHeader file) = is
-
-  by_width : (t : Bool) → IsAnswer (unless_refused r (option_or (then_some t (outcomes.Mismatch (TooManyColumns COLUMN_LIMIT))) (too_many_faults o.max_errors load))).status
+  by_width : (t : Bool) → IsAnswer (unless_refused r (option_or (option_map (λ m. outcomes.Mismatch m) (then_some t (TooManyColumns COLUMN_LIMIT))) (option_map (λ n. outcomes.TooManyFaults n) (too_many_faults o.max_errors load)))).status
   by_width true = inr (inr (inr (inl refl)))
-  by_width false = by_load load
+  by_width false = by_bound (too_many_faults o.max_errors load)
 
   by_name : (name : Option (List ℕ)) →
-      IsAnswer (unless_refused r (option_or (option_map (λ n. outcomes.Mismatch (NoColumn n s.names)) name) (option_or (too_many_columns answer s) (too_many_faults o.max_errors load)))).status
+      IsAnswer (unless_refused r (option_or (option_map (λ m. outcomes.Mismatch m) (option_or (option_map (λ n. NoColumn n s.names) name) (too_many_columns answer s)))
+      (option_map (λ n. outcomes.TooManyFaults n) (too_many_faults o.max_errors load)))).status
   by_name None = by_width (is_database answer && is_too_wide s)
   by_name (Some name) = inr (inr (inr (inl refl)))
 
@@ -131,7 +129,7 @@ sniffed_answers o input = by_name (missing_name o.column_types s.names) where
   by_word true = inl refl
   by_word false = inl refl
 
-  by_name : (name : Option (List ℕ)) → IsAnswer (outcome_reply (unwrap_or (option_map (λ name. outcomes.Mismatch (NoColumn name s.names)) name) (told o.explain))).status
+  by_name : (name : Option (List ℕ)) → IsAnswer (outcome_reply (unwrap_or (option_map (λ m. outcomes.Mismatch m) (option_map (λ name. NoColumn name s.names) name)) (told o.explain))).status
   by_name None = by_word o.explain
   by_name (Some name) = inr (inr (inr (inl refl)))
 
@@ -157,63 +155,70 @@ none_told limit reply_by (Some files) left before after r answers is = inl ([], 
 
 module _ (words : List (List ℕ)) (taps : List Seen) (held : Told) (left : Option (List ℕ)) (before after : ℕ) (r : Reply) where
   pub words_told : (request : Request) (word : List ℕ) → read_words words ≡ Ok request → word ≡ word_at words 1
-      → IsReplyBy request.options.max_input (request_reply request.command request word taps) (command_names request.command word) held left before after r
+      → (let asked = asked_by request.options request.command in IsReplyBy request.options.max_input (asked_reply asked request word taps) (asked_names asked word) held left before after r)
       → IsReplyTo words taps held left before after r
   words_told request word read named told =
       subst (λ asked. IsReplyBy (input_limit asked) (words_reply asked words taps) (words_names asked (word_at words 1)) held left before after r) (sym read)
-      (subst (λ w. IsReplyBy request.options.max_input (request_reply request.command request w taps) (command_names request.command w) held left before after r) named told)
+      (let asked = asked_by request.options request.command in
+      subst (λ w. IsReplyBy request.options.max_input (asked_reply asked request w taps) (asked_names asked w) held left before after r) named told)
 
   pub refused_told : (fault : WordFault) → read_words words ≡ Err fault → r ≡ outcome_reply (outcomes.Refused fault (word_at words fault.index)) → IsReplyTo words taps held left before after r
   refused_told fault read is =
       subst (λ asked. IsReplyBy (input_limit asked) (words_reply asked words taps) (words_names asked (word_at words 1)) held left before after r) (sym read)
       (none_told 0 (words_reply (Err fault) words taps) held left before after r (subst (λ (q : Reply). IsAnswer q.status) (sym is) (inr (inl refl))) is)
 
--- ---- the commands
+-- ---- what a command asks for
+
+-- whether no file is read for it
+abbrev pub is_made : Asked → Bool
+is_made asks.Made = true
+is_made asks.Sniffed = false
+is_made (asks.Loaded answer several) = false
+
+pub made_alone : (o : Options) (command : Command) (asked : Asked) → asked ≡ asked_by o command → is_make command ≡ is_made asked
+made_alone o command asked is = by_command command ∙ ap is_made (sym is) where
+  by_command : (c : Command) → is_make c ≡ is_made (asked_by o c)
+  by_command load_command = refl
+  by_command Sniff = refl
+  by_command Summary = refl
+  by_command Convert = refl
+  by_command Rejects = refl
+  by_command Batch = refl
+  by_command Make = refl
+
+-- an answer of one file alone is asked for one
+abbrev IsOfOne : Asked → Type 0
+IsOfOne asks.Made = ⊤
+IsOfOne asks.Sniffed = ⊤
+IsOfOne (asks.Loaded answer several) = is_of_one answer ≡ true → several ≡ false
+
+of_one : (o : Options) (command : Command) → IsOfOne (asked_by o command)
+of_one o load_command = λ alone. refl
+of_one o Sniff = tt
+of_one o Summary = λ alone. refl
+of_one o Convert = λ alone. refl
+of_one o Rejects = λ alone. refl
+of_one o Batch = by_format (is_sqlite o.to) where
+  by_format : (t : Bool) → is_of_one (cond t answers.Database answers.Batch) ≡ true → true ≡ false
+  by_format true alone = sym alone
+  by_format false alone = sym alone
+of_one o Make = tt
+
+pub one_alone : (o : Options) (command : Command) (answer : Answer) (several : Bool) → asks.Loaded answer several ≡ asked_by o command → is_of_one answer ≡ true → several ≡ false
+one_alone o command answer several is = subst IsOfOne (sym is) (of_one o command)
 
 module _ (request : Request) (word : List ℕ) (taps : List Seen) (held : Told) (left : Option (List ℕ)) (before after : ℕ) (r : Reply) where
-  pub command_told : (command : Command) → request.command ≡ command → (o : Options) → o ≡ request.options
-      → IsReplyBy o.max_input (request_reply command (record request { options = o }) word taps) (command_names command word) held left before after r
-      → IsReplyBy request.options.max_input (request_reply request.command request word taps) (command_names request.command word) held left before after r
-  command_told command is o same told =
-      subst (λ c. IsReplyBy request.options.max_input (request_reply c request word taps) (command_names c word) held left before after r) (sym is)
-      (subst (λ (x : Options). IsReplyBy x.max_input (request_reply command (record request { options = x }) word taps) (command_names command word) held left before after r) same told)
+  pub asked_told : (asked : Asked) (o : Options) → asked ≡ asked_by o request.command → o ≡ request.options
+      → IsReplyBy o.max_input (asked_reply asked (record request { options = o }) word taps) (asked_names asked word) held left before after r
+      → (let all = asked_by request.options request.command in IsReplyBy request.options.max_input (asked_reply all request word taps) (asked_names all word) held left before after r)
+  asked_told asked o is same told =
+      subst (λ (x : Options). IsReplyBy x.max_input (asked_reply (asked_by x request.command) (record request { options = x }) word taps) (asked_names (asked_by x request.command) word) held left before after r) same
+      (subst (λ a. IsReplyBy o.max_input (asked_reply a (record request { options = o }) word taps) (asked_names a word) held left before after r) is told)
 
-  pub sniff_told : request.command ≡ Sniff → (o : Options) → o ≡ request.options
-      → IsReplyBy o.max_input (opened_reply (sniffed_reply o) o.max_input) (word ∷ []) held left before after r
-      → IsReplyBy request.options.max_input (request_reply request.command request word taps) (command_names request.command word) held left before after r
-  sniff_told is o same told = command_told Sniff is o same told
-
-  pub load_told : request.command ≡ load_command → (o : Options) → o ≡ request.options
-      → IsReplyBy o.max_input (opened_reply (inputs_reply answers.Loaded o (word ∷ []) taps) o.max_input) (word ∷ []) held left before after r
-      → IsReplyBy request.options.max_input (request_reply request.command request word taps) (command_names request.command word) held left before after r
-  load_told is o same told = command_told load_command is o same told
-
-  pub rejects_told : request.command ≡ Rejects → (o : Options) → o ≡ request.options
-      → IsReplyBy o.max_input (opened_reply (inputs_reply answers.Rejects o (word ∷ []) taps) o.max_input) (word ∷ []) held left before after r
-      → IsReplyBy request.options.max_input (request_reply request.command request word taps) (command_names request.command word) held left before after r
-  rejects_told is o same told = command_told Rejects is o same told
-
-  pub summary_told : request.command ≡ Summary → (o : Options) → o ≡ request.options
-      → IsReplyBy o.max_input (opened_reply (inputs_reply answers.Summary o (word ∷ []) taps) o.max_input) (word ∷ []) held left before after r
-      → IsReplyBy request.options.max_input (request_reply request.command request word taps) (command_names request.command word) held left before after r
-  summary_told is o same told = command_told Summary is o same told
-
-  pub convert_told : request.command ≡ Convert → (o : Options) → o ≡ request.options → (answer : Answer) → answer ≡ in_format o answers.Written
-      → IsReplyBy o.max_input (opened_reply (inputs_reply answer o (word ∷ []) taps) o.max_input) (word ∷ []) held left before after r
-      → IsReplyBy request.options.max_input (request_reply request.command request word taps) (command_names request.command word) held left before after r
-  convert_told is o same answer formed told = command_told Convert is o same
-      (subst (λ a. IsReplyBy o.max_input (opened_reply (inputs_reply a o (word ∷ []) taps) o.max_input) (word ∷ []) held left before after r) formed told)
-
-  pub batch_told : request.command ≡ Batch → (o : Options) → o ≡ request.options → (answer : Answer) → answer ≡ in_format o answers.Batch
-      → IsReplyBy o.max_input (opened_reply (inputs_reply answer o (file_names word) taps) o.max_input) (file_names word) held left before after r
-      → IsReplyBy request.options.max_input (request_reply request.command request word taps) (command_names request.command word) held left before after r
-  batch_told is o same answer formed told = command_told Batch is o same
-      (subst (λ a. IsReplyBy o.max_input (opened_reply (inputs_reply a o (file_names word) taps) o.max_input) (file_names word) held left before after r) formed told)
-
-  pub made_told : request.command ≡ Make → r ≡ reply (endings.Answered 0 None) (made_text request.number request.rows)
-      → IsReplyBy request.options.max_input (request_reply request.command request word taps) (command_names request.command word) held left before after r
-  made_told is made = command_told Make is request.options refl
-      (none_told request.options.max_input (request_reply Make request word taps) held left before after r (subst (λ (q : Reply). IsAnswer q.status) (sym made) (inl refl)) made)
+  pub made_told : (o : Options) → asks.Made ≡ asked_by o request.command → o ≡ request.options → r ≡ reply (endings.Answered 0 None) (made_text request.number request.rows)
+      → (let all = asked_by request.options request.command in IsReplyBy request.options.max_input (asked_reply all request word taps) (asked_names all word) held left before after r)
+  made_told o is same made = asked_told asks.Made o is same
+      (none_told o.max_input (asked_reply asks.Made (record request { options = o }) word taps) held left before after r (subst (λ (q : Reply). IsAnswer q.status) (sym made) (inl refl)) made)
 
 -- ---- the report of the only file
 

@@ -1,5 +1,5 @@
 -- The reply to words: an ending with its status, and a text (this loader's profile).
-use Rattle.std.specs.Prelude.{◌≡◌, ℕ, if◌then◌else◌, List, [], ◌∷◌, map, option_map, Option, Some, None, unwrap_or, Result, Ok, Err, String, string_bytes, false}
+use Rattle.std.specs.Prelude.{◌≡◌, ℕ, if◌then◌else◌, List, [], ◌∷◌, map, option_map, Option, Some, None, unwrap_or, Result, Ok, Err, String, string_bytes, true, false}
 use Rattle.std.specs.Bool.{then_some}
 use Rattle.std.specs.List.{filter_map}
 use Rattle.std.specs.declared.alloc.Global.{Global}
@@ -9,7 +9,6 @@ use Rattle.load_options.specs.declared.options.Command.TheVariants.{Load, Sniff,
 use Rattle.load_options.specs.declared.options.Options.{Options}
 use Rattle.load_options.specs.declared.options.Request.{Request}
 use Rattle.load_options.specs.declared.words.WordFault.{WordFault}
-use Rattle.load_options.specs.FileNames.{file_names}
 use Rattle.load_options.specs.Formats.{is_sqlite}
 use Rattle.load_options.specs.Request.{read_words}
 use Rattle.load_options.specs.Texts.{word_at}
@@ -32,7 +31,7 @@ use Rattle.report_text.specs.declared.outcome.Stats.{Stats}
 use Rattle.csv_writer.specs.WrittenTable.{written_table}
 use Rattle.reject_writer.specs.WrittenRejects.{written_rejects}
 use Rattle.db_writer.specs.Database.{database}
-use Rattle.loader_reply.specs.Batch.{batch_refusal, found_in_first, load_of}
+use Rattle.loader_reply.specs.Batch.{batch_refusal, found_in_first, load_of, names_of}
 use Rattle.loader_reply.specs.Databases.{stored_files}
 use Rattle.loader_reply.specs.Fitting.{no_column, refusal}
 use Rattle.loader_reply.specs.Ending.{ending_code, ending_of}
@@ -44,6 +43,8 @@ use Rattle.loader_reply.specs.declared.batch.Load.{Load as FilesLoad}
 use Rattle.loader_reply.specs.declared.batch.Load.TheVariants as loads
 use Rattle.loader_reply.specs.declared.ending.Ending.{Ending}
 use Rattle.loader_reply.specs.declared.ending.Ending.TheVariants as endings
+use Rattle.loader_reply.specs.declared.replying.Asked.{Asked}
+use Rattle.loader_reply.specs.declared.replying.Asked.TheVariants as asks
 
 -- the bytes of words
 abbrev pub texts : List (String Global) → List (List ℕ)
@@ -137,7 +138,7 @@ told o s input = if o.explain then outcomes.Explained s (explanation o input s) 
 
 -- what `sniff` tells of an input: that a column isn't there, or what is found
 abbrev pub sniffed_outcome : Options → List ℕ → Outcome
-sniffed_outcome o input = let s = found o input in unwrap_or (no_column o s) (told o s input)
+sniffed_outcome o input = let s = found o input in unwrap_or (option_map (λ m. outcomes.Mismatch m) (no_column o s)) (told o s input)
 
 -- the reply of `sniff`, by the first
 abbrev pub sniffed_reply : Options → List (List ℕ) → Reply
@@ -156,39 +157,37 @@ opened_reply to_inputs limit opened = unless_refused (to_inputs (filter_map (λ 
 
 -- ---- the reply to words
 
--- the reply to a request whose file or files are named by a word, by what came of them as they were opened; `make` reads none
-abbrev pub request_reply : Command → Request → List ℕ → List Seen → List (Option (List ℕ)) → Reply
-request_reply Load request word taps opened = let o = request.options in
-    opened_reply (inputs_reply answers.Loaded o (word ∷ []) taps) o.max_input opened
-request_reply Sniff request word taps opened = let o = request.options in
+-- what a command asks for: `batch` alone for several files
+abbrev pub asked_by : Options → Command → Asked
+asked_by o Load = asks.Loaded answers.Loaded false
+asked_by o Sniff = asks.Sniffed
+asked_by o Summary = asks.Loaded answers.Summary false
+asked_by o Convert = asks.Loaded (in_format o answers.Written) false
+asked_by o Rejects = asks.Loaded answers.Rejects false
+asked_by o Batch = asks.Loaded (in_format o answers.Batch) true
+asked_by o Make = asks.Made
+
+-- the reply to a request that asks for this, and whose file or files are named by a word, by what came of them as they were opened; `make` reads none
+abbrev pub asked_reply : Asked → Request → List ℕ → List Seen → List (Option (List ℕ)) → Reply
+asked_reply asks.Made request word taps opened = reply (endings.Answered 0 None) (made_text request.number request.rows)
+asked_reply asks.Sniffed request word taps opened = let o = request.options in
     opened_reply (sniffed_reply o) o.max_input opened
-request_reply Summary request word taps opened = let o = request.options in
-    opened_reply (inputs_reply answers.Summary o (word ∷ []) taps) o.max_input opened
-request_reply Convert request word taps opened = let o = request.options in
-    opened_reply (inputs_reply (in_format o answers.Written) o (word ∷ []) taps) o.max_input opened
-request_reply Rejects request word taps opened = let o = request.options in
-    opened_reply (inputs_reply answers.Rejects o (word ∷ []) taps) o.max_input opened
-request_reply Batch request word taps opened = let o = request.options in
-    opened_reply (inputs_reply (in_format o answers.Batch) o (file_names word) taps) o.max_input opened
-request_reply Make request word taps opened = reply (endings.Answered 0 None) (made_text request.number request.rows)
+asked_reply (asks.Loaded answer several) request word taps opened = let o = request.options in
+    opened_reply (inputs_reply answer o (names_of several word) taps) o.max_input opened
 
 abbrev pub words_reply : Result Request WordFault → List (List ℕ) → List Seen → List (Option (List ℕ)) → Reply
 words_reply (Err fault) words taps opened = outcome_reply (outcomes.Refused fault (word_at words fault.index))
-words_reply (Ok request) words taps opened = request_reply request.command request (word_at words 1) taps opened
+words_reply (Ok request) words taps opened = asked_reply (asked_by request.options request.command) request (word_at words 1) taps opened
 
--- the names of the files that a command reads, and that words want to be read
-abbrev pub command_names : Command → List ℕ → List (List ℕ)
-command_names Load word = word ∷ []
-command_names Sniff word = word ∷ []
-command_names Summary word = word ∷ []
-command_names Convert word = word ∷ []
-command_names Rejects word = word ∷ []
-command_names Batch word = file_names word
-command_names Make word = []
+-- the names of the files that are read for what is asked, and that words want to be read
+abbrev pub asked_names : Asked → List ℕ → List (List ℕ)
+asked_names asks.Made word = []
+asked_names asks.Sniffed word = word ∷ []
+asked_names (asks.Loaded answer several) word = names_of several word
 
 abbrev pub words_names : Result Request WordFault → List ℕ → List (List ℕ)
 words_names (Err fault) word = []
-words_names (Ok request) word = command_names request.command word
+words_names (Ok request) word = asked_names (asked_by request.options request.command) word
 
 -- what the files tell of those of some names; nothing has to be told where there is none
 abbrev pub told_of : List (List ℕ) → Option (List (List ℕ × List ℕ)) → Option (List (Option (List ℕ)))

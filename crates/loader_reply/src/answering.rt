@@ -1,14 +1,13 @@
 // How what files come to is answered.
 ghost use Rattle.load_options.specs.Accepted.{IsAccepted};
-ghost use Rattle.std.specs.Prelude.{◌≡◌, ◌≤◌, ◌∷◌, [], false, true, length, map, All, IfOk};
+ghost use Rattle.std.specs.Prelude.{◌≡◌, ◌≤◌, ◌∷◌, [], length, map, All, IfOk};
 ghost use Rattle.column_taps.specs.Seen.{IsFresh};
 ghost use Rattle.std.specs.Bool.{then_some};
 ghost use Rattle.report_text.specs.Printable.{IsPrintableBatch, IsPrintableLoad};
 ghost use Rattle.report_text.specs.declared.outcome.Outcome.TheVariants as outcomes;
-ghost use Rattle.loader_reply.specs.Fitting.{is_of_one, IsAnswerable};
+ghost use Rattle.loader_reply.specs.Fitting.{IsAnswerable};
 ghost use Rattle.loader_reply.specs.declared.batch.Load.TheVariants as loads;
-ghost use Rattle.loader_reply.specs.Reply.{inputs_reply, loaded_of, opened_reply, sniffed_reply, summary_reply, whole_reply, without_spare, written_reply};
-ghost use Rattle.loader_reply.specs.Batch.{names_of};
+ghost use Rattle.loader_reply.specs.Reply.{loaded_of, opened_reply, sniffed_reply, summary_reply, whole_reply, without_spare, written_reply};
 ghost use Rattle.loader_reply.specs.Replying.{IsReplyBy, IsStopReply};
 ghost use Rattle.loader_reply.specs.Reply.{IsShort, outcome_reply};
 
@@ -19,11 +18,10 @@ use crate::reply_text::ReplyText;
 use crate::showing::tap_lines;
 use column_taps::RowTap;
 use csv_sniffer::Sniffed;
-use csv_source::{Bytes, Gate, NoMemory, Source};
+use csv_source::{Bytes, NoMemory, Source};
 use csv_writer::write_table;
 use file_list::Batch;
 use report_text::{Loaded, Outcome, Stats, all_in, render_batch, render_loaded};
-use std::sync::Wait;
 use std::thread::Threads;
 use window_load::LoadStop;
 
@@ -54,7 +52,7 @@ impl<'a, R: Threads + Sync, G> Loader<'a, R, G> {
     }
 
     /// The reply where the reading of files stopped.
-    fn stopped_reply(&self, stop: LoadStop) -> Result<Reply, NoMemory>
+    pub fn stopped_reply(&self, stop: LoadStop) -> Result<Reply, NoMemory>
         ensures ok { IfOk result (IsStopReply self.now.options.now.max_input stop) }
     {
         match stop {
@@ -110,10 +108,10 @@ impl<'a, R: Threads + Sync, G> Loader<'a, R, G> {
     }
 
     /// The reply with the report of several files, rows and all.
-    fn batch_report(&self, sniffed: Sniffed, batch: Batch, stats: Stats) -> Result<Reply, NoMemory>
-        requires { IsPrintableBatch sniffed batch }
+    fn batch_report(&self, sniffed: &Sniffed, batch: Batch, stats: Stats) -> Result<Reply, NoMemory>
+        requires { IsPrintableBatch sniffed.now batch }
         ensures { let o = self.now.options.now in
-            IfOk result (λ r. r ≡ outcome_reply (outcomes.Batch sniffed batch o.store_rejects (then_some o.stats stats))) }
+            IfOk result (λ r. r ≡ outcome_reply (outcomes.Batch sniffed.now batch o.store_rejects (then_some o.stats stats))) }
     {
         let faults = all_in(&batch)?;
         let noticed = sniffed.noticed;
@@ -121,7 +119,7 @@ impl<'a, R: Threads + Sync, G> Loader<'a, R, G> {
             self.options.store_rejects,
             self.options.stats.then_some(stats),
         );
-        let text = render_batch(&self.workers(), &sniffed, batch, store, stats)?;
+        let text = render_batch(&self.workers(), sniffed, batch, store, stats)?;
         Ok(Reply::new(
             Ending::Answered(faults, Some(noticed)),
             ReplyText::Report(text),
@@ -157,10 +155,14 @@ impl<'a, R: Threads + Sync, G> Loader<'a, R, G> {
         match answer {
             Answer::Loaded => self.loaded_report(self.loaded_of(sniffed, batch, stats)),
             Answer::Summary => self.summary_reply(self.loaded_of(sniffed, batch, stats), taps),
-            Answer::Batch => self.batch_report(sniffed, batch, stats),
+            Answer::Batch => {
+                let reply = self.batch_report(&sniffed, batch, stats);
+                // As one value, as in `Ending::of`.
+                drop(sniffed);
+                reply
+            }
             Answer::Written => {
                 let reply = self.written_reply(&sniffed, batch);
-                // As one value, as in `Ending::of`.
                 drop(sniffed);
                 reply
             }
@@ -190,32 +192,6 @@ impl<'a, R: Threads + Sync, G> Loader<'a, R, G> {
     {
         match self.sniff_file(name, source) {
             Ok(outcome) => self.report(outcome),
-            Err(stop) => self.stopped_reply(stop),
-        }
-    }
-}
-
-impl<'a, R: Threads + Wait + Sync, G: Gate> Loader<'a, R, G> {
-    /// The reply by the load of the file of a name, or of the files of several in one word.
-    pub fn loaded_reply<S: Source + Send>(
-        &self,
-        answer: Answer,
-        word: &str,
-        several: bool,
-        source: &mut S,
-        taps: Vec<Box<dyn RowTap>>,
-    ) -> Result<Reply, NoMemory>
-        requires accepted { IsAccepted self.now.options.now }
-        requires one { is_of_one answer ≡ true → several ≡ false }
-        requires fresh { All IsFresh (map seen taps.items) }
-        ensures ok { let o = self.now.options.now in let names = names_of several word.now in
-            IfOk result (IsReplyBy o.max_input (opened_reply (inputs_reply answer o names (map seen taps.items)) o.max_input) names
-            (S.held source.old) (S.left source.new) (S.faults source.old) (S.faults source.new)) }
-        ensures held { S.held source.new ≡ S.held source.old }
-        ensures count { S.faults source.old ≤ S.faults source.new }
-    {
-        match self.load_files(word, several, source) {
-            Ok(files) => self.load_reply(answer, files, taps),
             Err(stop) => self.stopped_reply(stop),
         }
     }

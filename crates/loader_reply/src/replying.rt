@@ -11,7 +11,7 @@ ghost use Rattle.loader_reply.specs.declared.ending.Ending.TheVariants as ending
 ghost use Rattle.loader_reply.specs.declared.status.Status.TheVariants as statuses;
 ghost use Rattle.loader_reply.specs.Ending.{status_code};
 ghost use Rattle.loader_reply.specs.Replying.{ReadsFile, ReadsNoFile, IsReplyBy, IsReplyTo};
-ghost use Rattle.loader_reply.specs.Reply.{texts, reply, outcome_reply, command_names, request_reply};
+ghost use Rattle.loader_reply.specs.Reply.{texts, reply, asked_by, asked_names, asked_reply, outcome_reply};
 
 use crate::answering::Answer;
 use crate::ending::Ending;
@@ -26,6 +26,17 @@ use std::alloc::Global;
 use std::sync::Wait;
 use std::thread::Threads;
 use text_pieces::Pieces;
+
+/// What a command asks for.
+#[derive(Clone, Copy)]
+pub enum Asked {
+    /// A made text, for which no file is read.
+    Made,
+    /// What is found in a file.
+    Sniffed,
+    /// The load of a file, and how it is answered; where it is so, of the several that one word names.
+    Loaded(Answer, bool),
+}
 
 /// The reply to words that are refused.
 fn reply_to_refused(alloc: Global, words: &[String], fault: WordFault) -> Result<Reply, NoMemory>
@@ -47,6 +58,23 @@ fn made_reply(alloc: Global, request: &Request) -> Result<Reply, NoMemory>
     ))
 }
 
+impl<'a, R: Threads + Sync, G> Loader<'a, R, G> {
+    /// What a command asks for.
+    fn asked(&self, command: Command) -> Asked
+        ensures { result ≡ asked_by self.now.options.now command }
+    {
+        match command {
+            Command::Make => Asked::Made,
+            Command::Sniff => Asked::Sniffed,
+            Command::Load => Asked::Loaded(Answer::Loaded, false),
+            Command::Rejects => Asked::Loaded(Answer::Rejects, false),
+            Command::Summary => Asked::Loaded(Answer::Summary, false),
+            Command::Convert => Asked::Loaded(self.in_format(Answer::Written), false),
+            Command::Batch => Asked::Loaded(self.in_format(Answer::Batch), true),
+        }
+    }
+}
+
 impl<'a, R: Threads + Wait + Sync, G: Gate> Loader<'a, R, G> {
     /// The reply to a request with these options, whose file or files are named by that word.
     fn reply_to_request<S: Source + Send>(
@@ -60,28 +88,21 @@ impl<'a, R: Threads + Wait + Sync, G: Gate> Loader<'a, R, G> {
         requires same { self.now.options.now ≡ request.now.options }
         requires rows { request.now.rows ≤ ROW_LIMIT }
         requires fresh { All IsFresh (map seen taps.items) }
-        ensures ok { let command = request.now.command in
-            IfOk result (IsReplyBy request.now.options.max_input (request_reply command request.now word.now (map seen taps.items)) (command_names command word.now)
+        ensures ok { let asked = asked_by request.now.options request.now.command in
+            IfOk result (IsReplyBy request.now.options.max_input (asked_reply asked request.now word.now (map seen taps.items)) (asked_names asked word.now)
             (S.held source.old) (S.left source.new) (S.faults source.old) (S.faults source.new)) }
         ensures fault_of_file { IfOk result (λ r. r.status ≡ status_code statuses.ReadFault → is_make request.now.command ≡ false) }
         ensures untouched { is_make request.now.command ≡ true → source.new ≡ source.old }
         ensures held { S.held source.new ≡ S.held source.old }
         ensures count { S.faults source.old ≤ S.faults source.new }
     {
-        match request.command {
-            Command::Make => made_reply(self.alloc, request),
-            Command::Sniff => self.sniffed_reply(word, source),
-            Command::Load => self.loaded_reply(Answer::Loaded, word, false, source, taps),
-            Command::Rejects => self.loaded_reply(Answer::Rejects, word, false, source, taps),
-            Command::Summary => self.loaded_reply(Answer::Summary, word, false, source, taps),
-            Command::Convert => {
-                let answer = self.in_format(Answer::Written);
-                self.loaded_reply(answer, word, false, source, taps)
-            }
-            Command::Batch => {
-                let answer = self.in_format(Answer::Batch);
-                self.loaded_reply(answer, word, true, source, taps)
-            }
+        match self.asked(request.command) {
+            Asked::Made => made_reply(self.alloc, request),
+            Asked::Sniffed => self.sniffed_reply(word, source),
+            Asked::Loaded(answer, several) => match self.load_files(word, several, source) {
+                Ok(files) => self.load_reply(answer, files, taps),
+                Err(stop) => self.stopped_reply(stop),
+            },
         }
     }
 }

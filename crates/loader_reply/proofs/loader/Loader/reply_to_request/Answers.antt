@@ -1,60 +1,65 @@
-use Rattle.std.proofs.Common.{map}
+use Rattle.std.proofs.Common.{length, map, refl, sym, ap, ◌∙◌, subst, Err}
 use Rattle.std.proofs.lemmas.Result.{IfOk-weaker}
-use Rattle.loader_reply.proofs.Replies.{batch_told, convert_told, load_told, made_told, rejects_told, sniff_told, summary_told}
+use Rattle.loader_reply.specs.Batch.{names_of, HasFiles}
+use Rattle.loader_reply.specs.Reply.{inputs_reply}
+use Rattle.loader_reply.specs.declared.replying.Asked.TheVariants as asks
+use Rattle.loader_reply.proofs.Replies.{asked_told, loaded_told, made_told, one_alone, stopped_told}
 use Rattle.loader_reply.proofs.loader.Loader.reply_to_request.Goals as goal
 
-pub returns-in-Make-clause-ok : goal.returns-in-Make-clause-ok
-returns-in-Make-clause-ok g c =
+pub load_reply-requires-clause-answerable : goal.load_reply-requires-clause-answerable
+load_reply-requires-clause-answerable g c κs within = record {
+  one = λ alone. subst (λ several. HasFiles (length (names_of several c.args.word.now)) c.in-Ok.files.load)
+      (one_alone c.args.self.now.options.now c.args.request.now.command c.in-Loaded.answer c.in-Loaded.several (sym c.in-Loaded.is ∙ c.asked.ensures) alone) c.in-Ok.ensures.files;
+  printable = c.in-Ok.ensures.printable;
+  fresh = c.requires.fresh;
+}
+
+pub returns-in-Made-clause-ok : goal.returns-in-Made-clause-ok
+returns-in-Made-clause-ok g c =
     let taps = map (λ tap. (goal.RowTap-dyn g (tap.vtable, tap.value)).seen tap.value) c.args.taps.items in
     IfOk-weaker c.made_reply.result _ _
     (λ r is. made_told c.args.request.now c.args.word.now taps (g.S.Source.held c.args.source.now) (g.S.Source.left c.args.source.now) (g.S.Source.faults c.args.source.now) (g.S.Source.faults c.args.source.now)
-    r c.in-Make.is is)
+    r c.args.self.now.options.now (sym c.in-Made.is ∙ c.asked.ensures) c.requires.same is)
     c.made_reply.ensures.ok
 
-pub returns-in-Sniff-clause-ok : goal.returns-in-Sniff-clause-ok
-returns-in-Sniff-clause-ok g c =
+pub returns-in-Sniffed-clause-ok : goal.returns-in-Sniffed-clause-ok
+returns-in-Sniffed-clause-ok g c =
     let taps = map (λ tap. (goal.RowTap-dyn g (tap.vtable, tap.value)).seen tap.value) c.args.taps.items in
     IfOk-weaker c.sniffed_reply.result _ _
-    (λ r told. sniff_told c.args.request.now c.args.word.now taps (g.S.Source.held c.args.source.now) (g.S.Source.left c.sniffed_reply.new.source) (g.S.Source.faults c.args.source.now) (g.S.Source.faults c.sniffed_reply.new.source)
-    r c.in-Sniff.is c.args.self.now.options.now c.requires.same told)
+    (λ r told. asked_told c.args.request.now c.args.word.now taps (g.S.Source.held c.args.source.now) (g.S.Source.left c.sniffed_reply.new.source) (g.S.Source.faults c.args.source.now) (g.S.Source.faults c.sniffed_reply.new.source)
+    r asks.Sniffed c.args.self.now.options.now (sym c.in-Sniffed.is ∙ c.asked.ensures) c.requires.same told)
     c.sniffed_reply.ensures.ok
 
-pub returns-in-Load-clause-ok : goal.returns-in-Load-clause-ok
-returns-in-Load-clause-ok g c =
+pub returns-in-Ok-clause-ok : goal.returns-in-Ok-clause-ok
+returns-in-Ok-clause-ok g c =
+    let o = c.args.self.now.options.now in
+    let answer = c.in-Loaded.answer in
+    let several = c.in-Loaded.several in
+    let held = g.S.Source.held c.args.source.now in
+    let left = g.S.Source.left c.load_files.new.source in
+    let before = g.S.Source.faults c.args.source.now in
+    let after = g.S.Source.faults c.load_files.new.source in
+    let files = c.in-Ok.files in
     let taps = map (λ tap. (goal.RowTap-dyn g (tap.vtable, tap.value)).seen tap.value) c.args.taps.items in
-    IfOk-weaker c.loaded_reply.result _ _
-    (λ r told. load_told c.args.request.now c.args.word.now taps (g.S.Source.held c.args.source.now) (g.S.Source.left c.loaded_reply.new.source) (g.S.Source.faults c.args.source.now) (g.S.Source.faults c.loaded_reply.new.source)
-    r c.in-Load.is c.args.self.now.options.now c.requires.same told)
-    c.loaded_reply.ensures.ok
+    IfOk-weaker c.load_reply.result _ _
+    (λ r is. asked_told c.args.request.now c.args.word.now taps held left before after r (asks.Loaded answer several) o (sym c.in-Loaded.is ∙ c.asked.ensures) c.requires.same
+    (loaded_told o.max_input held (names_of several c.args.word.now) left before after r answer o files.sniffed taps files.load is c.in-Ok.ensures.ok refl))
+    c.load_reply.ensures.ok
 
-pub returns-in-Summary-clause-ok : goal.returns-in-Summary-clause-ok
-returns-in-Summary-clause-ok g c =
+pub returns-in-Err-clause-ok : goal.returns-in-Err-clause-ok
+returns-in-Err-clause-ok g c =
+    let o = c.args.self.now.options.now in
+    let answer = c.in-Loaded.answer in
+    let several = c.in-Loaded.several in
+    let held = g.S.Source.held c.args.source.now in
+    let left = g.S.Source.left c.load_files.new.source in
+    let before = g.S.Source.faults c.args.source.now in
+    let after = g.S.Source.faults c.load_files.new.source in
+    let stop = c.in-Err.stop in
+    let names = names_of several c.args.word.now in
     let taps = map (λ tap. (goal.RowTap-dyn g (tap.vtable, tap.value)).seen tap.value) c.args.taps.items in
-    IfOk-weaker c.loaded_reply-in-Summary.result _ _
-    (λ r told. summary_told c.args.request.now c.args.word.now taps (g.S.Source.held c.args.source.now) (g.S.Source.left c.loaded_reply-in-Summary.new.source) (g.S.Source.faults c.args.source.now) (g.S.Source.faults c.loaded_reply-in-Summary.new.source)
-    r c.in-Summary.is c.args.self.now.options.now c.requires.same told)
-    c.loaded_reply-in-Summary.ensures.ok
-
-pub returns-in-Convert-clause-ok : goal.returns-in-Convert-clause-ok
-returns-in-Convert-clause-ok g c =
-    let taps = map (λ tap. (goal.RowTap-dyn g (tap.vtable, tap.value)).seen tap.value) c.args.taps.items in
-    IfOk-weaker c.loaded_reply-in-Convert.result _ _
-    (λ r told. convert_told c.args.request.now c.args.word.now taps (g.S.Source.held c.args.source.now) (g.S.Source.left c.loaded_reply-in-Convert.new.source) (g.S.Source.faults c.args.source.now) (g.S.Source.faults c.loaded_reply-in-Convert.new.source)
-    r c.in-Convert.is c.args.self.now.options.now c.requires.same c.in_format-answer.result c.in_format-answer.ensures told)
-    c.loaded_reply-in-Convert.ensures.ok
-
-pub returns-in-Batch-clause-ok : goal.returns-in-Batch-clause-ok
-returns-in-Batch-clause-ok g c =
-    let taps = map (λ tap. (goal.RowTap-dyn g (tap.vtable, tap.value)).seen tap.value) c.args.taps.items in
-    IfOk-weaker c.loaded_reply-in-Batch.result _ _
-    (λ r told. batch_told c.args.request.now c.args.word.now taps (g.S.Source.held c.args.source.now) (g.S.Source.left c.loaded_reply-in-Batch.new.source) (g.S.Source.faults c.args.source.now) (g.S.Source.faults c.loaded_reply-in-Batch.new.source)
-    r c.in-Batch.is c.args.self.now.options.now c.requires.same c.in_format-answer-in-Batch.result c.in_format-answer-in-Batch.ensures told)
-    c.loaded_reply-in-Batch.ensures.ok
-
-pub returns-in-Rejects-clause-ok : goal.returns-in-Rejects-clause-ok
-returns-in-Rejects-clause-ok g c =
-    let taps = map (λ tap. (goal.RowTap-dyn g (tap.vtable, tap.value)).seen tap.value) c.args.taps.items in
-    IfOk-weaker c.loaded_reply-in-Rejects.result _ _
-    (λ r told. rejects_told c.args.request.now c.args.word.now taps (g.S.Source.held c.args.source.now) (g.S.Source.left c.loaded_reply-in-Rejects.new.source) (g.S.Source.faults c.args.source.now) (g.S.Source.faults c.loaded_reply-in-Rejects.new.source)
-    r c.in-Rejects.is c.args.self.now.options.now c.requires.same told)
-    c.loaded_reply-in-Rejects.ensures.ok
+    IfOk-weaker c.stopped_reply.result _ _
+    (λ r is. asked_told c.args.request.now c.args.word.now taps held left before after r (asks.Loaded answer several) o (sym c.in-Loaded.is ∙ c.asked.ensures) c.requires.same
+    (stopped_told o.max_input held names left before after r (inputs_reply answer o names taps) stop is
+    (λ e. c.load_files.ensures.too_large (c.in-Err.is ∙ ap (λ s. Err s) e)) (λ e. c.load_files.ensures.failed (c.in-Err.is ∙ ap (λ s. Err s) e))))
+    c.stopped_reply.ensures.ok
