@@ -1,5 +1,5 @@
 -- The load of an input by its head and what comes behind it.
-use Rattle.std.proofs.Common.{◌≡◌, ℕ, ◌≤◌, true, List, [], ◌++◌, length, take, drop, Option, None, refl}
+use Rattle.std.proofs.Common.{◌≡◌, ℕ, ◌≤◌, true, List, [], ◌++◌, length, take, drop, Option, None, refl, subst}
 use Rattle.byte_classes.specs.LineEnds.{line_ends}
 use Rattle.load_options.specs.declared.options.Options.{Options}
 use Rattle.csv_sniffer.specs.declared.found.Sniffed.{Sniffed}
@@ -11,7 +11,7 @@ use Rattle.window_load.specs.declared.data_read.WindowRead.{WindowRead}
 use Rattle.window_load.specs.declared.data_read.WindowRead.TheVariants.{All, Stopped}
 use Rattle.loader_reply.specs.declared.loading.FileLoad.{FileLoad}
 use Rattle.loader_reply.specs.declared.loading.FileLoad.TheVariants.{Whole, FirstError, OtherHeader}
-use Rattle.loader_reply.specs.Loading.{IsHead, IsFileLoad, IsRaisedRead, LoadsUnder, context_of, stops_at_error}
+use Rattle.loader_reply.specs.Loading.{IsHead, IsFileLoad, IsRaisedRead, context_of, stops_at_error}
 use Rattle.loader_reply.proofs.HeadSteps.{comes_weaker, placed_in_all, lines_in_all}
 use Rattle.loader_reply.proofs.Loads.{first_error, whole_load}
 
@@ -33,7 +33,7 @@ module _ (o : Options) (head : WindowView) (is : IsHead o.skip o.max_input head)
   by_read OtherHeader (All got) came quiet is_read none = absurd none
   by_read OtherHeader (Stopped first) came quiet is_read none = absurd none
 
-  pub load_comes : (load : FileLoad) → ComesWhole before after head (λ input. LoadsUnder context lines start o.range_size (stops_at_error o) input load) →
-      ComesWhole before after head (λ input. IsFileLoad o s file_id input load)
-  load_comes load = comes_weaker before after head (λ input. LoadsUnder context lines start o.range_size (stops_at_error o) input load) (λ input. IsFileLoad o s file_id input load)
-      (λ came quiet loads. by_read load loads.0 came quiet loads.1 loads.2)
+  pub load_comes : (read : WindowRead) (load : FileLoad) (n : ℕ) → n ≡ lines → IsRaisedRead context.keep n read load →
+      ComesWhole before after head (λ input. IsWindowRead context (drop start input) start o.range_size (stops_at_error o) read) → ComesWhole before after head (λ input. IsFileLoad o s file_id input load)
+  load_comes read load n same raises = comes_weaker before after head (λ input. IsWindowRead context (drop start input) start o.range_size (stops_at_error o) read) (λ input. IsFileLoad o s file_id input load)
+      (λ came quiet is_read. by_read load read came quiet is_read (subst (λ k. IsRaisedRead context.keep k read load) same raises))

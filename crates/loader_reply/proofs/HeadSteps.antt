@@ -1,5 +1,5 @@
 -- A head that is read on: what comes behind it, and what is found in it.
-use Rattle.std.proofs.Common.{◌≡◌, inl, inr, ℕ, ◌+◌, ◌≤◌, true, false, ◌&&◌, not, List, [], ◌++◌, length, take, Option, None, sym, ◌∙◌, ap, subst, arith, length-append}
+use Rattle.std.proofs.Common.{◌≡◌, inl, inr, ℕ, ◌+◌, ◌≤◌, Bool, true, false, cond, ◌&&◌, not, List, [], ◌++◌, length, take, Option, None, Some, refl, sym, ◌∙◌, ap, subst, arith, length-append}
 use Rattle.std.specs.Io.KnownBytes.{Consumes, IsAtEnd}
 use Rattle.std.proofs.KnownBytes.{Consumes-trans}
 use Rattle.std.proofs.lemmas.List.{nil_from_length, take-append-le}
@@ -10,7 +10,7 @@ use Rattle.csv_sniffer.specs.declared.found.Sniffed.{Sniffed}
 use Rattle.csv_sniffer.specs.Input.{found, data_place, has_same_header, place_under}
 use Rattle.window_load.specs.DataRead.{ComesWhole, ComesOver}
 use Rattle.window_load.specs.Window.{WindowView, reach, no_bytes, ReachesOn}
-use Rattle.loader_reply.specs.Loading.{is_headed_otherwise, IsHead, IsFileLoad, IsLaterLoad}
+use Rattle.loader_reply.specs.Loading.{is_headed_otherwise, later_start, IsHead, IsFileLoad, IsLaterLoad}
 use Rattle.loader_reply.specs.declared.loading.FileLoad.{FileLoad}
 use Rattle.loader_reply.specs.declared.loading.FileLoad.TheVariants.{Whole, FirstError, OtherHeader}
 use Rattle.report_text.specs.declared.outcome.Outcome.{Outcome}
@@ -79,6 +79,23 @@ module _ (o : Options) (head : WindowView) (is : IsHead o.skip o.max_input head)
 
   pub lines_in_all : (start : ℕ) → start ≤ length head.kept → line_ends None (take start head.kept) ≡ line_ends None (take start (head.kept ++ came))
   lines_in_all start within = ap (line_ends None) (sym (take-append-le start head.kept came within))
+
+-- where the data of a later file begin, unless it is headed otherwise
+module _ (o : Options) (s : Sniffed) (bytes input : List ℕ) (begins : Option ℕ) (is : begins ≡ later_start o s bytes) (same : bytes ≡ input) where
+  begins_in : begins ≡ later_start o s input
+  begins_in = is ∙ ap (later_start o s) same
+
+  pub begins_at : (start : ℕ) → begins ≡ Some start → (is_headed_otherwise o s input ≡ false) × (start ≡ place_under o s input)
+  begins_at start some = by_header (is_headed_otherwise o s input) (sym some ∙ begins_in) where
+    by_header : (t : Bool) → Some start ≡ cond t None (Some (place_under o s input)) → (t ≡ false) × (start ≡ place_under o s input)
+    by_header true wrong = absurd (let no : ⊥ = cc in no)
+    by_header false here = (refl, cc)
+
+  pub begins_otherwise : begins ≡ None → is_headed_otherwise o s input ≡ true
+  begins_otherwise none = by_header (is_headed_otherwise o s input) (sym none ∙ begins_in) where
+    by_header : (t : Bool) → None ≡ cond t None (Some (place_under o s input)) → t ≡ true
+    by_header true here = refl
+    by_header false wrong = absurd (let no : ⊥ = cc in no)
 
 -- ---- the reading of the head
 

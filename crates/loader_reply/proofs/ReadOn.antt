@@ -5,11 +5,16 @@ use Rattle.std.proofs.KnownBytes.{Consumes-trans}
 use Rattle.csv_source.specs.Moves.{MovesFront}
 use Rattle.load_options.specs.declared.options.Options.{Options}
 use Rattle.csv_sniffer.specs.declared.finding.Finding.{Finding}
-use Rattle.window_load.specs.DataRead.{ComesOver}
+use Rattle.csv_sniffer.specs.Input.{found}
+use Rattle.csv_sniffer.specs.declared.found.Sniffed.{Sniffed}
+use Rattle.window_load.specs.DataRead.{ComesWhole, ComesOver}
 use Rattle.window_load.specs.Groups.{group_reach}
 use Rattle.window_load.specs.Window.{WindowView, reach, behind_front, fill_limit}
-use Rattle.loader_reply.specs.Batch.{IsOpened}
-use Rattle.loader_reply.specs.Loading.{IsHead, IsFinding, IsSniffedHead, GoesBehindSample}
+use Rattle.loader_reply.specs.Batch.{IsOpened, IsReadOver, IsReadWhole}
+use Rattle.loader_reply.specs.Loading.{IsFileLoad, IsHead, IsFinding, IsSniffedHead, GoesBehindSample}
+use Rattle.loader_reply.specs.declared.loading.FileLoad.{FileLoad}
+use Rattle.loader_reply.specs.declared.sniffed_head.SniffedHead.{SniffedHead}
+use Rattle.loader_reply.proofs.HeadFiles.{whole_file, over_file}
 use Rattle.loader_reply.proofs.HeadLaws.{start-more}
 use Rattle.loader_reply.proofs.HeadSteps.{found_in_all, placed_in_all}
 
@@ -64,3 +69,19 @@ pub still_opened : (held : Option (List (List ℕ × List ℕ))) (name : List �
     MovesFront before after old new → IsOpened held name (λ first. Consumes first after new)
 still_opened held name before after old new opened moves =
     (opened.0, opened.1, subst (Consumes opened.0 after) (sym moves.1) (Consumes-trans opened.0 before after old moves.0 opened.2 moves.2))
+
+-- the first file, whose head went on while its sample was looked at
+module _ (o : Options) (held : Option (List (List ℕ × List ℕ))) (name : List ℕ) (before after left : Option (List ℕ)) (head : WindowView) (read : SniffedHead)
+    (opened : IsOpened held name (λ first. Consumes first before head.kept)) (is : IsSniffedHead o before after head read) where
+  abbrev s : Sniffed
+  s = read.finding.sniffed
+
+  still : IsOpened held name (λ first. Consumes first after read.head.kept)
+  still = still_opened held name before after head.kept read.head.kept opened is.moved
+
+  pub first_whole : (load : FileLoad) → ComesWhole after left read.head (λ input. IsFileLoad o s 0 input load) → IsReadWhole o.max_input held name left (λ input. (s ≡ found o input) × IsFileLoad o s 0 input load)
+  first_whole load = whole_file o.max_input held name after left read.head is.head.limit still (λ input. IsFileLoad o s 0 input load) (λ input. (s ≡ found o input) × IsFileLoad o s 0 input load)
+      (λ came quiet loads. (found_in_all o read.head is.head came quiet s is.finding.sniffed, loads))
+
+  pub first_over : ComesOver after left read.head → IsReadOver o.max_input held name left
+  first_over over = over_file o.max_input held name after left read.head is.head.limit still over

@@ -1,5 +1,5 @@
 -- What is read of a file, and what its data come to (this loader's profile).
-use Rattle.std.specs.Prelude.{◌≡◌, ℕ, ◌+◌, Bool, not, ◌||◌, ◌&&◌, false, List, [], drop, Some, None, ◌⊎◌, ◌<◌, ◌≤◌, true, ◌++◌, length, take, Option, ⊤}
+use Rattle.std.specs.Prelude.{◌≡◌, ℕ, ◌+◌, if◌then◌else◌, Bool, not, ◌||◌, ◌&&◌, false, List, [], drop, Some, None, ◌⊎◌, ◌<◌, ◌≤◌, true, ◌++◌, length, take, Option, ⊤}
 use Rattle.load_options.specs.declared.options.Options.{Options}
 use Rattle.csv_source.specs.Moves.{MovesFront}
 use Rattle.csv_sniffer.specs.declared.finding.Finding.{Finding}
@@ -8,7 +8,6 @@ use Rattle.csv_sniffer.specs.Input.{place_under, found, data_place, has_same_hea
 use Rattle.reject_book.specs.declared.book.Keep.{Keep}
 use Rattle.reject_book.specs.Kept.{book_of, joined, raised}
 use Rattle.range_scan.specs.declared.context.Context.{Context}
-use Rattle.window_load.specs.DataRead.{IsWindowRead}
 use Rattle.window_load.specs.declared.data_read.DataRead.{DataRead}
 use Rattle.window_load.specs.declared.data_read.WindowRead.{WindowRead}
 use Rattle.window_load.specs.declared.data_read.WindowRead.TheVariants.{All, Stopped}
@@ -40,6 +39,10 @@ IsFileLoad o s file_id input OtherHeader = ⊥
 -- whether a later file must begin with the header of the first one, and doesn't
 abbrev pub is_headed_otherwise : Options → Sniffed → List ℕ → Bool
 is_headed_otherwise o s input = o.same_header && not (has_same_header o s input)
+
+-- the place where a later file's data begin, unless it is headed otherwise
+abbrev pub later_start : Options → Sniffed → List ℕ → Option ℕ
+later_start o s input = if is_headed_otherwise o s input then None else Some (place_under o s input)
 
 -- what a later file's data come to, unless it begins with another header
 abbrev pub IsLaterLoad : Options → Sniffed → ℕ → List ℕ → FileLoad → Type 0
@@ -75,9 +78,6 @@ IsRaisedRead keep lines (Stopped first) (FirstError reject) = reject ≡ raised 
 IsRaisedRead keep lines (All read) (FirstError reject) = ⊥
 IsRaisedRead keep lines (Stopped first) (Whole loaded) = ⊥
 IsRaisedRead keep lines read OtherHeader = ⊥
-
-abbrev pub LoadsUnder : Context → ℕ → ℕ → ℕ → Bool → List ℕ → FileLoad → Type 0
-LoadsUnder context lines start size stop input load = (read : WindowRead) × IsWindowRead context (drop start input) start size stop read × IsRaisedRead context.keep lines read load
 
 -- ---- the head of an input, which is read before the sample is looked at
 

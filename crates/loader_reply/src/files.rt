@@ -1,6 +1,6 @@
 // A file of which the head is read, before its sample is looked at, and then its data.
 ghost use Rattle.load_options.specs.Accepted.{IsAccepted};
-ghost use Rattle.std.specs.Prelude.{◌≡◌, ◌⊎◌, ◌≤◌, ◌<◌, ◌^◌, length, true, false, IfOk, IsTrue, IsFalse, Err};
+ghost use Rattle.std.specs.Prelude.{◌≡◌, ◌⊎◌, ◌≤◌, ◌<◌, ◌^◌, length, true, false, IfOk, IfSome, IsTrue, IsFalse, Err};
 ghost use Rattle.std.specs.Io.KnownBytes.{Consumes, IsAtEnd};
 ghost use Rattle.csv_source.specs.Causes.{Rose};
 ghost use Rattle.csv_source.specs.Files.{Lacks, Opens};
@@ -8,15 +8,13 @@ ghost use Rattle.range_scan.specs.Scanned.{HasColumns};
 ghost use Rattle.window_load.specs.DataRead.{ComesOver};
 ghost use Rattle.window_load.specs.Window.{no_bytes};
 ghost use Rattle.window_load.specs.declared.stop.LoadStop.TheVariants as stops;
-ghost use Rattle.csv_sniffer.specs.Input.{found};
 ghost use Rattle.loader_reply.specs.Batch.{IsOpened, IsReadWhole, IsReadOver};
-ghost use Rattle.loader_reply.specs.Loading.{is_headed_otherwise, IsHead, GoesBehindSample, IsFileLoad, IsLaterLoad};
+ghost use Rattle.loader_reply.specs.Loading.{later_start, IsHead, GoesBehindSample, IsLaterLoad};
 ghost use Rattle.loader_reply.specs.Reading.{schema_of};
 ghost use Rattle.loader_reply.specs.Reply.{IsShort, sniffed_outcome, told};
 
 use crate::loader::Loader;
 use crate::loading::FileLoad;
-use crate::sniffed_head::SniffedHead;
 use csv_sniffer::{
     Finding, SAMPLE_LIMIT, Sniffed, explain, has_same_header, place_under, sample_start,
     sniff_input,
@@ -65,7 +63,7 @@ fn read_head<S: Source>(
 
 impl<'a, R, G> Loader<'a, R, G> {
     /// Opens a file and reads its head.
-    fn open_head<S: Source>(&self, name: &str, source: &mut S) -> Result<InputWindow, LoadStop>
+    pub fn open_head<S: Source>(&self, name: &str, source: &mut S) -> Result<InputWindow, LoadStop>
         requires accepted { IsAccepted self.now.options.now }
         ensures ok { let o = self.now.options.now in IfOk result (λ head. IsHead o.skip o.max_input head
             × IsOpened (S.held source.old) name.now (λ opened. Consumes opened (S.left source.new) head.kept)) }
@@ -82,15 +80,18 @@ impl<'a, R, G> Loader<'a, R, G> {
         read_head(self.alloc, source, options.skip, options.max_input)
     }
 
-    /// Whether a later file must begin with the header of the first one, and doesn't.
-    fn is_headed_otherwise(&self, sniffed: &Sniffed, head: &[u8]) -> Result<bool, NoMemory>
+    /// The place in the head of a later file, from 0, where its data begin; none where it has to begin with the header of the
+    /// first one, and doesn't.
+    fn later_start(&self, sniffed: &Sniffed, head: &[u8]) -> Result<Option<usize>, NoMemory>
         requires few { length sniffed.now.names < 2 ^ 63 }
-        ensures ok { IfOk result (λ other. other ≡ is_headed_otherwise self.now.options.now sniffed.now head.now) }
+        ensures ok { IfOk result (λ start. start ≡ later_start self.now.options.now sniffed.now head.now) }
+        ensures within { IfOk result (λ start. IfSome start (λ place. place ≤ length head.now)) }
     {
-        if !self.options.same_header {
-            return Ok(false);
+        let (alloc, options) = (self.alloc, self.options);
+        if options.same_header && !has_same_header(alloc, options, sniffed, head)? {
+            return Ok(None);
         }
-        Ok(!has_same_header(self.alloc, self.options, sniffed, head)?)
+        Ok(Some(place_under(alloc, options, sniffed, head)?))
     }
 
     /// What `sniff` tells of an input.
@@ -102,10 +103,10 @@ impl<'a, R, G> Loader<'a, R, G> {
         let Finding { sniffed, .. } = sniff_input(self.alloc, self.options, input)?;
         match self.no_column(&sniffed) {
             Ok(None) => self.told(sniffed, input),
-            Ok(Some(outcome)) => {
+            Ok(Some(mismatch)) => {
                 // As one value, as in `Ending::of`.
                 drop(sniffed);
-                Ok(outcome)
+                Ok(Outcome::Mismatch(mismatch))
             }
             Err(NoMemory) => {
                 drop(sniffed);
@@ -146,10 +147,12 @@ impl<'a, R, G> Loader<'a, R, G> {
     {
         let mut head = self.open_head(name, source)?;
         let outcome = self.sniffed_outcome(head.bytes())?;
-        match head.read_past(source) {
+        let past = head.read_past(source);
+        // As one value, as in `Ending::of`.
+        drop(head);
+        match past {
             Ok(()) => Ok(outcome),
             Err(stop) => {
-                // As one value, as in `Ending::of`.
                 drop(outcome);
                 Err(stop)
             }
@@ -158,38 +161,6 @@ impl<'a, R, G> Loader<'a, R, G> {
 }
 
 impl<'a, R: Threads + Wait + Sync, G: Gate> Loader<'a, R, G> {
-    /// Reads the first file: what is found in it, and what its data come to under it.
-    pub fn read_first<S: Source + Send>(
-        &self,
-        name: &str,
-        source: &mut S,
-    ) -> Result<(Sniffed, FileLoad), LoadStop>
-        requires accepted { IsAccepted self.now.options.now }
-        ensures ok { let o = self.now.options.now in
-            IfOk result (λ read. IsReadWhole o.max_input (S.held source.old) name.now (S.left source.new)
-            (λ input. (read.0 ≡ found o input) × IsFileLoad o read.0 0 input read.1)) }
-        ensures columns { IfOk result (λ read. HasColumns (schema_of self.now.options.now read.0)) }
-        ensures few { IfOk result (λ read. length read.0.names < 2 ^ 63) }
-        ensures too_large { result ≡ Err stops.TooLarge → IsReadOver self.now.options.now.max_input (S.held source.old) name.now (S.left source.new) }
-        ensures failed { result ≡ Err stops.Failed → Rose (S.faults source.old) (S.faults source.new) ⊎ Lacks (S.held source.old) name.now }
-        ensures held { S.held source.new ≡ S.held source.old }
-        ensures count { S.faults source.old ≤ S.faults source.new }
-    {
-        let head = self.open_head(name, source)?;
-        let SniffedHead { finding, head } = self.sniff_head(head, source)?;
-        let Finding {
-            sniffed,
-            data_start,
-        } = finding;
-        match self.load_data(&sniffed, 0, head, data_start, source) {
-            Ok(load) => Ok((sniffed, load)),
-            Err(stop) => {
-                drop(sniffed);
-                Err(stop)
-            }
-        }
-    }
-
     /// Loads a later file of a number: its data under what was found in the first one, unless it begins with another header.
     pub fn load_later<S: Source + Send>(
         &self,
@@ -210,11 +181,13 @@ impl<'a, R: Threads + Wait + Sync, G: Gate> Loader<'a, R, G> {
         ensures count { S.faults source.old ≤ S.faults source.new }
     {
         let mut head = self.open_head(name, source)?;
-        if self.is_headed_otherwise(sniffed, head.bytes())? {
-            head.read_past(source)?;
-            return Ok(FileLoad::OtherHeader);
+        let begins = self.later_start(sniffed, head.bytes())?;
+        match begins {
+            Some(start) => self.load_data(sniffed, file_id, head, start, source),
+            None => {
+                head.read_past(source)?;
+                Ok(FileLoad::OtherHeader)
+            }
         }
-        let start = place_under(self.alloc, self.options, sniffed, head.bytes())?;
-        self.load_data(sniffed, file_id, head, start, source)
     }
 }

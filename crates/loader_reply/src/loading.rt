@@ -1,6 +1,6 @@
 // The load of the data.
 ghost use Rattle.load_options.specs.Accepted.{IsAccepted};
-ghost use Rattle.std.specs.Prelude.{◌≡◌, ◌+◌, ◌≤◌, ◌^◌, true, length, drop, take, None, IfOk, Err};
+ghost use Rattle.std.specs.Prelude.{◌≡◌, ◌+◌, ◌≤◌, ◌^◌, true, length, drop, IfOk, Err};
 ghost use Rattle.std.specs.Io.KnownBytes.{IsAtEnd};
 ghost use Rattle.csv_source.specs.Causes.{Rose};
 ghost use Rattle.load_options.specs.declared.limits.TheConstants.{MAX_LINE_SIZE};
@@ -10,8 +10,7 @@ ghost use Rattle.reject_book.specs.declared.book.Keep.TheVariants.{First as firs
 ghost use Rattle.window_load.specs.DataRead.{ComesWhole, ComesOver, IsWindowRead};
 ghost use Rattle.window_load.specs.declared.stop.LoadStop.TheVariants as stops;
 ghost use Rattle.csv_sniffer.specs.Input.{place_under};
-ghost use Rattle.loader_reply.specs.Loading.{stops_at_error, IsFileLoad, IsHead, IsRaised, IsRaisedRead, KeepsAs, LoadsUnder};
-ghost use Rattle.byte_classes.specs.LineEnds.{line_ends};
+ghost use Rattle.loader_reply.specs.Loading.{stops_at_error, IsFileLoad, IsHead, IsRaised, IsRaisedRead, KeepsAs};
 ghost use Rattle.loader_reply.specs.Reading.{schema_of};
 
 use crate::context::context_of;
@@ -118,7 +117,6 @@ impl<'a, R: Threads + Wait + Sync, G: Gate> Loader<'a, R, G> {
         head: InputWindow,
         start: usize,
         source: &mut S,
-        stop: bool,
     ) -> Result<WindowRead, LoadStop>
         requires accepted { IsAccepted self.now.options.now }
         requires begins { head.base ≡ 0 }
@@ -127,14 +125,15 @@ impl<'a, R: Threads + Wait + Sync, G: Gate> Loader<'a, R, G> {
         requires at_end { head.ended ≡ true → IsAtEnd (S.left source.old) }
         requires line { context.now.schema.max_line_size ≤ MAX_LINE_SIZE.most }
         requires fits { HasColumns context.now.schema }
-        requires keep { stop ≡ true → context.now.keep ≡ first_of 1 }
-        ensures ok { IfOk result (λ read. ComesWhole (S.left source.old) (S.left source.new) head
-            (λ input. IsWindowRead context.now (drop start input) start self.now.options.now.range_size stop read)) }
+        requires keep { stops_at_error self.now.options.now ≡ true → context.now.keep ≡ first_of 1 }
+        ensures ok { let o = self.now.options.now in IfOk result (λ read. ComesWhole (S.left source.old) (S.left source.new) head
+            (λ input. IsWindowRead context.now (drop start input) start o.range_size (stops_at_error o) read)) }
         ensures too_large { result ≡ Err stops.TooLarge → ComesOver (S.left source.old) (S.left source.new) head }
         ensures failed { result ≡ Err stops.Failed → Rose (S.faults source.old) (S.faults source.new) }
         ensures held { S.held source.new ≡ S.held source.old }
         ensures count { S.faults source.old ≤ S.faults source.new }
     {
+        let stop = stops_at_error(self.options);
         let loader = DataLoader {
             rt: self.rt,
             alloc: self.alloc,
@@ -173,45 +172,20 @@ impl<'a, R: Threads + Wait + Sync, G: Gate> Loader<'a, R, G> {
         ensures held { S.held source.new ≡ S.held source.old }
         ensures count { S.faults source.old ≤ S.faults source.new }
     {
+        let lines = count_line_ends(&head.bytes()[..start], None);
         match context_of(self.alloc, self.options, sniffed, file_id) {
             Ok(context) => {
-                let load = self.load_under(&context, head, start, source);
+                let keep = context.keep;
+                let came = self.read_data(&context, head, start, source);
                 // As one value, as in `Ending::of`.
                 drop(context);
-                load
+                let read = came?;
+                Ok(file_load(self.alloc, keep, read, lines)?)
             }
             Err(NoMemory) => {
                 drop(head);
                 Err(LoadStop::NoMemory)
             }
         }
-    }
-
-    /// Loads the data that begin at `start` with what their rows are scanned by.
-    fn load_under<S: Source + Send>(
-        &self,
-        context: &Context,
-        head: InputWindow,
-        start: usize,
-        source: &mut S,
-    ) -> Result<FileLoad, LoadStop>
-        requires accepted { IsAccepted self.now.options.now }
-        requires head { IsHead self.now.options.now.skip self.now.options.now.max_input head }
-        requires within { start ≤ length head.kept }
-        requires at_end { head.ended ≡ true → IsAtEnd (S.left source.old) }
-        requires line { context.now.schema.max_line_size ≤ MAX_LINE_SIZE.most }
-        requires fits { HasColumns context.now.schema }
-        requires keep { stops_at_error self.now.options.now ≡ true → context.now.keep ≡ first_of 1 }
-        ensures ok { let o = self.now.options.now in IfOk result (λ load. ComesWhole (S.left source.old) (S.left source.new) head
-            (λ input. LoadsUnder context.now (line_ends None (take start head.kept)) start o.range_size (stops_at_error o) input load)) }
-        ensures too_large { result ≡ Err stops.TooLarge → ComesOver (S.left source.old) (S.left source.new) head }
-        ensures failed { result ≡ Err stops.Failed → Rose (S.faults source.old) (S.faults source.new) }
-        ensures held { S.held source.new ≡ S.held source.old }
-        ensures count { S.faults source.old ≤ S.faults source.new }
-    {
-        let lines = count_line_ends(&head.bytes()[..start], None);
-        let stop = stops_at_error(self.options);
-        let read = self.read_data(context, head, start, source, stop)?;
-        Ok(file_load(self.alloc, context.keep, read, lines)?)
     }
 }

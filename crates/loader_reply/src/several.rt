@@ -11,6 +11,8 @@ ghost use Rattle.loader_reply.specs.SoFar.{IsSoFar, ReadsNext};
 
 use crate::batch::{LoadedFiles, first_name, first_of};
 use crate::loader::Loader;
+use crate::sniffed_head::SniffedHead;
+use csv_sniffer::Finding;
 use csv_source::{Bytes, Gate, Source};
 use std::sync::Wait;
 use std::thread::Threads;
@@ -34,8 +36,20 @@ impl<'a, R: Threads + Wait + Sync, G: Gate> Loader<'a, R, G> {
         ensures count { S.faults source.old ≤ S.faults source.new }
     {
         let file = Bytes::copy_of(self.alloc, name.as_bytes())?;
-        let (sniffed, load) = self.read_first(name, source)?;
-        Ok(LoadedFiles::of_one(self.alloc, sniffed, file, load)?)
+        let head = self.open_head(name, source)?;
+        let SniffedHead { finding, head } = self.sniff_head(head, source)?;
+        let Finding {
+            sniffed,
+            data_start,
+        } = finding;
+        match self.load_data(&sniffed, 0, head, data_start, source) {
+            Ok(load) => Ok(LoadedFiles::of_one(self.alloc, sniffed, file, load)?),
+            Err(stop) => {
+                // As one value, as in `Ending::of`.
+                drop(sniffed);
+                Err(stop)
+            }
+        }
     }
 
     /// Loads a later file of a number behind those before it, and answers the next number.
