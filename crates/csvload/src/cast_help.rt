@@ -1,12 +1,10 @@
 // What helps where a value can't be cast.
-use crate::excerpt::MOST;
-use crate::given::{gives, is_given, number_given, value_of, word_giving};
 use crate::help_line::FirstFault;
-use crate::line::Line;
-use crate::line::Part::{Number, Text};
-use crate::shell::can_be_copied;
+use call_advice::{gives, is_given, number_given, value_of, word_giving};
 use csv_sniffer::{SAMPLE_LIMIT, Sniffed};
 use load_options::limits::SAMPLE_SIZE;
+use person_line::Part::{Number, Text};
+use person_line::{Line, MOST, can_be_copied};
 use reject_book::Reject;
 use value_types::ColumnType;
 

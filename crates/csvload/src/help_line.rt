@@ -1,13 +1,13 @@
 // What helps against a first fault.
-use crate::again::{push_again, push_content};
 use crate::cast_help::push_cast_help;
-use crate::content::{Content, NOT_UTF8};
-use crate::given::{count_of_pieces, gives, is_given, number_given, value_of, word_giving};
-use crate::line::Line;
-use crate::line::Part::{File, Number, Text};
-use crate::shell::can_be_copied;
+use call_advice::{
+    Content, NOT_UTF8, count_of_pieces, gives, is_given, number_given, push_again, push_content,
+    value_of, word_giving,
+};
 use csv_sniffer::Sniffed;
 use load_options::limits::MAX_LINE_SIZE;
+use person_line::Part::{File, Number, Text};
+use person_line::{Line, can_be_copied};
 use reject_book::{ErrorKind, Reject};
 
 /// What helps against any fault.

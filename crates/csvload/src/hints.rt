@@ -1,8 +1,8 @@
 // Words that may be worth a try, after an answer.
-use crate::given::{gives, is_given};
-use crate::line::Line;
-use crate::line::Part::{Number, Text};
+use call_advice::{gives, is_given};
 use csv_sniffer::Noticed;
+use person_line::Line;
+use person_line::Part::{Number, Text};
 
 /// The mark that may stand before a text in UTF-8.
 const MARK: &[u8] = b"\xef\xbb\xbf";

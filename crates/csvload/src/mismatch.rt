@@ -1,9 +1,8 @@
 // What is said where a file isn't as the words want it.
-use crate::given::{command_word, file_at, subject};
-use crate::line::Line;
-use crate::line::Part::{Bytes, Name, Number, Subject, Text};
-use crate::rejects_call::push_rejects_call;
+use call_advice::{command_word, file_at, push_rejects_call, subject};
 use csv_source::STANDARD_INPUT;
+use person_line::Line;
+use person_line::Part::{Bytes, Name, Number, Subject, Text};
 use report_text::Mismatch;
 use value_types::Names;
 

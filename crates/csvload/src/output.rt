@@ -1,7 +1,7 @@
 // The file to which the text of status 0 goes.
-use crate::line::Line;
-use crate::line::Part::Name;
 use csv_source::{NoMemory, OutputSink};
+use person_line::Line;
+use person_line::Part::Name;
 use std::alloc::Global;
 use std::fs;
 use std::io::{ErrorKind, Print};

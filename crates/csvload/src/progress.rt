@@ -1,6 +1,6 @@
 // A line on standard error that shows how far the reading has come.
-use crate::screen_line::ScreenLine;
 use csv_source::{NoMemory, STANDARD_INPUT};
+use person_line::ScreenLine;
 use std::alloc::Global;
 use std::fs;
 use std::io::Eprint;

@@ -1,9 +1,8 @@
 // The first fault of a load, as compilers show one.
 ghost use Rattle.std.specs.Prelude.{◌≤◌, length};
 
-use crate::excerpt::push_excerpt;
-use crate::line::Line;
-use crate::line::Part::{Bytes, Name, Number};
+use person_line::Part::{Bytes, Name, Number};
+use person_line::{Line, push_excerpt};
 use reject_book::{ErrorKind, Reject};
 
 /// What stands before a value that can't be cast, behind the column's name.

@@ -1,8 +1,8 @@
 // What a shell's `>` does to a file, and what leaves it as it was.
-use crate::given::{gives, is_given};
-use crate::line::Line;
-use crate::line::Part::Name;
 use crate::message::Run;
+use call_advice::{gives, is_given};
+use person_line::Line;
+use person_line::Part::Name;
 use std::fs;
 use std::os::unix::fs::MetadataExt;
 use std::rt::Files;

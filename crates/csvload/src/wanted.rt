@@ -1,5 +1,5 @@
 // What words want written, and where.
-use crate::given::{value_of, word_giving};
+use call_advice::{value_of, word_giving};
 use csv_source::NoMemory;
 use load_options::{WordStop, is_sqlite, parse_words};
 use program_answer::own_text;

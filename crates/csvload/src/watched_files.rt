@@ -2,9 +2,9 @@
 ghost use Rattle.std.specs.Prelude.{◌≡◌};
 
 use crate::progress::ProgressLine;
-use crate::screen_line::ScreenLine;
-use crate::seen::SeenFile;
+use call_advice::SeenFile;
 use csv_source::{Failed, STANDARD_INPUT, Source};
+use person_line::ScreenLine;
 use std::io::Eprint;
 use std::rt::Files;
 use std::time::Clock;

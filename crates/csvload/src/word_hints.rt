@@ -1,13 +1,12 @@
 // Hints at words that are taken for something else than is meant, after an answer.
-use crate::content::Content;
-use crate::given::{command_word, gives, is_given, subject, value_of, word_giving};
 use crate::hints::{first_line, tells_delimiter};
-use crate::line::Line;
-use crate::line::Part::{Name, Number, Text};
 use crate::message::Run;
-use crate::seen::SeenFile;
-use crate::shell::can_be_copied;
+use call_advice::{
+    Content, SeenFile, command_word, gives, is_given, subject, value_of, word_giving,
+};
 use load_options::{Allowed, why_refused};
+use person_line::Part::{Name, Number, Text};
+use person_line::{Line, can_be_copied};
 
 /// What begins the report, and ends its first line where the file has a header.
 const WITH_HEADER: (&[u8], &[u8]) = (b"options|", b"|header=true");

@@ -1,8 +1,8 @@
 // Options that can't stand together.
 use crate::given::{command_word, count_of_pieces, value_of, word_giving};
-use crate::line::Line;
-use crate::line::Part::{Number, Text, Word};
 use load_options::{Conflict, command_of, conflict_behind};
+use person_line::Line;
+use person_line::Part::{Number, Text, Word};
 
 /// That a format isn't the command's.
 fn other_format(command: &str, format: &str) -> &'static str {
@@ -52,11 +52,6 @@ fn word_of<'a>(words: &'a [String], name: &str) -> &'a str {
     word_giving(words, name).unwrap_or("")
 }
 
-/// How many pieces a word's value has.
-fn pieces_of(word: &str) -> u64 {
-    count_of_pieces(value_of(word)) as u64
-}
-
 /// Why words can't stand together.
 fn push_told(said: &mut Line, words: &[String], conflict: Conflict) {
     let (name, other) = conflict.options();
@@ -65,7 +60,9 @@ fn push_told(said: &mut Line, words: &[String], conflict: Conflict) {
     let why = reason(conflict, command, value_of(first));
     match conflict {
         Conflict::CountsDiffer => {
-            said.say(why, &[Number(pieces_of(first)), Number(pieces_of(second))]);
+            let names = count_of_pieces(value_of(first)) as u64;
+            let types = count_of_pieces(value_of(second)) as u64;
+            said.say(why, &[Number(names), Number(types)]);
         }
         Conflict::WritesOther => said.say(why, &[Text(command)]),
         Conflict::LeavesNoQuote => {

@@ -1,10 +1,9 @@
 // Values that are refused, and what may have been meant.
 use crate::bad_value::push_bad_value;
-use crate::given::{name_of, value_of};
-use crate::line::Line;
-use crate::line::Part::Text;
-use crate::shell::can_be_copied;
-use load_options::{option_named, word_at};
+use crate::given::{gives_option, name_of, value_of};
+use load_options::word_at;
+use person_line::Part::Text;
+use person_line::{Line, can_be_copied};
 
 /// What stands around names and types in another program's list of them.
 const AROUND: [char; 5] = ['{', '}', '\'', '"', ' '];
@@ -13,6 +12,13 @@ const AROUND: [char; 5] = ['{', '}', '\'', '"', ' '];
 fn is_cut_by_space(words: &[String], index: usize) -> bool {
     let next = word_at(words, index.saturating_add(1));
     value_of(word_at(words, index)).ends_with(',') && !next.is_empty() && !next.contains('=')
+}
+
+/// A pair of a name and a type as `column_types` takes it.
+fn push_pair(pairs: &mut Line, pair: &str) {
+    let (name, ty) = pair.rsplit_once(':').unwrap_or((pair, ""));
+    let (name, ty) = (name.trim_matches(AROUND), ty.trim_matches(AROUND));
+    pairs.say("{}:{}", &[Text(name), Text(ty)]);
 }
 
 /// Pairs of a name and a type as `column_types` takes them.
@@ -25,9 +31,7 @@ fn push_pairs(said: &mut Line, value: &str) {
             pairs.push(",");
         }
         is_first = false;
-        let (name, ty) = pair.rsplit_once(':').unwrap_or((pair, ""));
-        let (name, ty) = (name.trim_matches(AROUND), ty.trim_matches(AROUND));
-        pairs.say("{}:{}", &[Text(name), Text(ty)]);
+        push_pair(&mut pairs, pair);
     }
     said.quote(&pairs);
 }
@@ -51,7 +55,7 @@ fn push_types_meant(said: &mut Line, words: &[String], index: usize) -> bool {
 /// What is said behind why a value is refused.
 fn push_advice(said: &mut Line, word: &str) {
     let (name, value) = (name_of(word), value_of(word));
-    if option_named(name.as_bytes()) == b"delim".as_slice() && value.is_empty() {
+    if value.is_empty() && gives_option(word, "delim") {
         said.say("; a shell takes ; and | for its own: '{}=;'", &[Text(name)]);
     } else if name == "to" && value.contains(['.', '/']) && can_be_copied(value) {
         said.push("; ");
@@ -63,9 +67,9 @@ fn push_advice(said: &mut Line, word: &str) {
 /// Why a value is refused, and what may have been meant.
 pub fn push_refused_value(said: &mut Line, words: &[String], index: usize) {
     let word = word_at(words, index);
-    let is_types = option_named(name_of(word).as_bytes()) == b"types".as_slice();
-    if !is_types || !push_types_meant(said, words, index) {
-        push_bad_value(said, words, index);
-        push_advice(said, word);
+    if gives_option(word, "types") && push_types_meant(said, words, index) {
+        return;
     }
+    push_bad_value(said, words, index);
+    push_advice(said, word);
 }

@@ -91,10 +91,10 @@ pub fn push_excerpt(said: &mut Line, row: &[u8], byte: u64) {
     said.push("^");
 }
 
-/// A text as it is shown, cut where it is long.
-pub fn push_shortened(said: &mut Line, text: &[u8]) {
+/// A text as a terminal shows it, cut where that takes more than so many characters.
+pub fn push_shown(said: &mut Line, text: &[u8], most: usize) {
     let glyphs = said.glyphs_of(text, Spelling::Word);
-    let end = front_within(&glyphs, MOST);
+    let end = front_within(&glyphs, most);
     said.glyphs(&glyphs[..end]);
     if end < glyphs.len() {
         said.push(CUT);

@@ -1,10 +1,9 @@
 // Commands that may be copied, with the words that were given: without them something else would be read.
 use crate::content::Content;
 use crate::given::{FIRST_OPTION, command_word, gives_one_of, subject};
-use crate::line::Line;
-use crate::line::Part::{File, Name, Shell, Text};
-use crate::shell::{can_be_copied, push_list};
 use csv_source::STANDARD_INPUT;
+use person_line::Part::{File, Name, Shell, Text};
+use person_line::{Line, can_be_copied, push_list};
 
 /// The options that were given but those of some names, each behind a space and as a shell takes it.
 pub fn push_kept(said: &mut Line, words: &[String], left_out: &[&str]) {
@@ -29,13 +28,20 @@ pub fn push_again(said: &mut Line, words: &[String], left_out: &[&str]) {
 
 /// Whether standard input may be read in place of a file. Not where that is taken already, and not where the file stands twice.
 fn may_be_piped(words: &[String], file: &str) -> bool {
-    let files = subject(words);
-    let is_taken = file != STANDARD_INPUT && files.split(',').any(|name| name == STANDARD_INPUT);
-    !is_taken
-        && files.split(',').filter(|name| *name == file).count() == 1
-        && files
-            .split(',')
-            .all(|name| name == file || can_be_copied(name))
+    let mut is_found = false;
+    for name in subject(words).split(',') {
+        let is_it = name == file;
+        if (is_it && is_found) || (!is_it && !is_kept(name)) {
+            return false;
+        }
+        is_found = is_found || is_it;
+    }
+    is_found
+}
+
+/// Whether a file may stand beside standard input in a command that may be copied.
+fn is_kept(name: &str) -> bool {
+    name != STANDARD_INPUT && can_be_copied(name)
 }
 
 /// How a file is read through a program that makes CSV of it.

@@ -1,8 +1,8 @@
 // The words of an explanation as a command that may be copied.
 use crate::again::push_kept;
 use crate::given::{command_word, gives, subject};
-use crate::line::Line;
-use crate::line::Part::File;
+use person_line::Line;
+use person_line::Part::File;
 
 /// What begins the line of the report that has the words.
 const WORDS: &[u8] = b"words|";

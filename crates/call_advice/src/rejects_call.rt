@@ -1,9 +1,8 @@
 // What lists the faults of a run that had more of them than wanted.
 use crate::again::push_kept;
 use crate::given::subject;
-use crate::line::Line;
-use crate::line::Part::{File, Text};
-use crate::shell::can_be_copied;
+use person_line::Part::{File, Text};
+use person_line::{Line, can_be_copied};
 
 /// Options that `rejects` refuses, or that say how many faults may be, which are kept, and where the text goes. All others
 /// have a say in which faults there are, or in how the work is done.

@@ -1,5 +1,5 @@
 // A line for a person, made of borrowed texts: a template says all of it but the parts that stand in its places.
-use crate::excerpt::{MOST, push_shortened};
+use crate::excerpt::{MOST, push_shown};
 use crate::glyphs::{Glyph, Spelling, hex_digit, push_glyphs};
 use crate::shell::{folder_of, push_quoted};
 use csv_source::STANDARD_INPUT;
@@ -123,13 +123,13 @@ impl Line {
         match part {
             Part::Text(text) => self.push(text),
             Part::Number(number) => self.number(number),
-            Part::Word(word) => push_shortened(self, word.as_bytes()),
-            Part::Bytes(bytes) => push_shortened(self, bytes),
-            Part::Name(name) => self.shown(name),
+            Part::Word(word) => push_shown(self, word.as_bytes(), MOST),
+            Part::Bytes(bytes) => push_shown(self, bytes, MOST),
+            Part::Name(name) => push_shown(self, name.as_bytes(), usize::MAX),
             Part::Subject(name) if name == STANDARD_INPUT => self.push("standard input"),
             Part::Subject(name) => {
                 self.push("'");
-                self.shown(name);
+                push_shown(self, name.as_bytes(), usize::MAX);
                 self.push("'");
             }
             Part::Shell(word) => push_quoted(self, "", word),
@@ -142,12 +142,6 @@ impl Line {
         if write!(self.text, "{number}").is_err() {
             self.give_up();
         }
-    }
-
-    /// A word as a terminal shows it.
-    fn shown(&mut self, word: &str) {
-        let glyphs = self.glyphs_of(word.as_bytes(), Spelling::Word);
-        self.glyphs(&glyphs);
     }
 
     /// The glyphs of bytes, not all of them where memory is wanting.

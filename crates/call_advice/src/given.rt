@@ -22,7 +22,7 @@ pub fn subject(words: &[String]) -> &str {
 pub fn file_at(words: &[String], number: u64) -> &str {
     let word = subject(words);
     match command_word(words) {
-        "batch" => word.split(',').nth(number as usize).unwrap_or(word),
+        "batch" => piece_of(word, number as usize),
         _ => word,
     }
 }
@@ -43,24 +43,29 @@ pub fn value_of(word: &str) -> &str {
     }
 }
 
-/// Whether a word gives one of these options, by its first name or a second one.
+/// Whether a word gives the option of that name, by this one or a second one.
+pub fn gives_option(word: &str, name: &str) -> bool {
+    match word.split_once('=') {
+        Some((given, _)) => option_named(given.as_bytes()) == option_named(name.as_bytes()),
+        None => false,
+    }
+}
+
+/// Whether a word gives one of these options.
 pub fn gives_one_of(word: &str, options: &[&str]) -> bool {
-    let option = option_named(name_of(word).as_bytes());
     for name in options {
-        if name.as_bytes() == option {
+        if gives_option(word, name) {
             return true;
         }
     }
     false
 }
 
-/// The first word that gives the option of that name, by this one or a second one.
+/// The first word that gives the option of that name.
 pub fn word_giving<'a>(words: &'a [String], name: &str) -> Option<&'a str> {
-    let option = option_named(name.as_bytes());
     for word in words.iter().skip(FIRST_OPTION) {
-        let word = word.as_str();
-        if word.contains('=') && option_named(name_of(word).as_bytes()) == option {
-            return Some(word);
+        if gives_option(word.as_str(), name) {
+            return Some(word.as_str());
         }
     }
     None
@@ -77,6 +82,11 @@ pub fn gives(words: &[String], name: &str, value: &str) -> bool {
 /// Whether an option is given.
 pub fn is_given(words: &[String], name: &str) -> bool {
     word_giving(words, name).is_some()
+}
+
+/// The piece of that place of a text that is cut at each comma.
+pub fn piece_of(text: &str, place: usize) -> &str {
+    text.split(',').nth(place).unwrap_or("")
 }
 
 /// How many pieces a value has that is cut at commas.

@@ -1,53 +1,47 @@
 // Values that an option doesn't allow.
-use crate::given::{command_word, name_of, subject, value_of};
-use crate::line::Line;
-use crate::line::Part::{Number, Text, Word};
+use crate::given::{command_word, name_of, piece_of, subject, value_of};
 use load_options::limits::{OUTPUT_NAME_LIMIT, TABLE_NAME_LIMIT};
-use load_options::{Allowed, NumberRange, Reason, allowed_texts, command_of, why_refused, word_at};
+use load_options::{Allowed, Reason, allowed_texts, command_of, why_refused, word_at};
+use person_line::Line;
+use person_line::Part::{Number, Text, Word};
 
 /// The manual's "all rows", which is no number here.
 const ALL_ROWS: &str = "sample_size=-1";
 
 /// What is said of other names of types, in lower case (of DuckDB's manual, "Data Types").
 const OTHER_TYPES: [(&str, &[&str]); 7] = [
-    ("BOOLEAN is meant", &["boolean", "bool", "logical"]),
-    ("BIGINT is meant", &["bigint", "int8", "long"]),
-    ("DATE is meant", &["date"]),
-    ("TIME is meant", &["time"]),
-    ("TIMESTAMP is meant", &["timestamp", "datetime"]),
+    (": BOOLEAN is meant", &["boolean", "bool", "logical"]),
+    (": BIGINT is meant", &["bigint", "int8", "long"]),
+    (": DATE is meant", &["date"]),
+    (": TIME is meant", &["time"]),
+    (": TIMESTAMP is meant", &["timestamp", "datetime"]),
     (
-        "VARCHAR is meant",
+        ": VARCHAR is meant",
         &["varchar", "char", "bpchar", "text", "string"],
     ),
     (
-        "fractions stay VARCHAR",
+        ": fractions stay VARCHAR",
         &[
             "double", "float", "float4", "float8", "real", "decimal", "numeric",
         ],
     ),
 ];
 
-/// What is said of a text that is no type here.
-fn said_of_type(text: &str) -> Option<&'static str> {
+/// What is said behind that a text is no type.
+fn said_of_type(text: &str) -> &'static str {
     for (line, names) in &OTHER_TYPES {
         for name in *names {
             if text.eq_ignore_ascii_case(name) {
-                return Some(line);
+                return line;
             }
         }
     }
-    None
+    " (in upper case: BOOLEAN, BIGINT, DATE, TIME, TIMESTAMP, VARCHAR)"
 }
 
 /// That a text is no type, and what is instead.
 fn push_no_type(said: &mut Line, text: &str) {
-    match said_of_type(text) {
-        Some(line) => said.say("'{}' is no type: {}", &[Word(text), Text(line)]),
-        None => said.say(
-            "'{}' is no type (in upper case: BOOLEAN, BIGINT, DATE, TIME, TIMESTAMP, VARCHAR)",
-            &[Word(text)],
-        ),
-    }
+    said.say("'{}' is no type{}", &[Word(text), Text(said_of_type(text))]);
 }
 
 /// That a piece has no type: of a pair behind its last colon.
@@ -62,42 +56,33 @@ fn push_untyped(said: &mut Line, name: &str, piece: &str, allowed: Allowed) {
     }
 }
 
-/// What a number may be.
-fn push_range(said: &mut Line, word: &str, range: NumberRange) {
-    let (least, most) = (Number(range.least), Number(range.most));
-    said.say("a number from {} to {}", &[least, most]);
-    if word == ALL_ROWS {
-        said.say("; {} is the most", &[most]);
+/// The least and the most of what an option takes, where it is a number or a name.
+fn bounds(allowed: Allowed) -> (u64, u64) {
+    match allowed {
+        Allowed::Number(range) => (range.least, range.most),
+        Allowed::TableName => (1, TABLE_NAME_LIMIT as u64),
+        _ => (1, OUTPUT_NAME_LIMIT as u64),
     }
 }
 
 /// What an option takes.
 fn push_taken(said: &mut Line, word: &str, allowed: Allowed) {
-    let (template, most) = match allowed {
-        Allowed::Number(range) => return push_range(said, word, range),
-        Allowed::Delim => ("one ASCII character, or \\t for a tab", 0),
-        Allowed::Choice => ("one ASCII character, or nothing", 0),
-        Allowed::Truth => ("true or false", 0),
-        Allowed::Text | Allowed::Names | Allowed::Types | Allowed::ColumnTypes => {
-            ("another text", 0)
+    let (least, most) = bounds(allowed);
+    let template = match allowed {
+        Allowed::Number(_) if word == ALL_ROWS => "a number from {} to {}; {} is the most",
+        Allowed::Number(_) => "a number from {} to {}",
+        Allowed::Delim => "one ASCII character, or \\t for a tab",
+        Allowed::Choice => "one ASCII character, or nothing",
+        Allowed::Truth => "true or false",
+        Allowed::Text | Allowed::Names | Allowed::Types | Allowed::ColumnTypes => "another text",
+        Allowed::Nulls => "texts, cut at each comma; nullstr= gives the empty one alone",
+        Allowed::Format => "csv or sqlite",
+        Allowed::TableName => {
+            "a name of {} to {} bytes that isn't reject_scans or reject_errors and doesn't begin with sqlite_"
         }
-        Allowed::Nulls => (
-            "texts, cut at each comma; nullstr= gives the empty one alone",
-            0,
-        ),
-        Allowed::Format => ("csv or sqlite", 0),
-        Allowed::TableName => (
-            "a name of 1 to {} bytes that isn't reject_scans or reject_errors and doesn't begin with sqlite_",
-            TABLE_NAME_LIMIT,
-        ),
-        Allowed::FileName => ("a file's name of 1 to {} bytes", OUTPUT_NAME_LIMIT),
+        Allowed::FileName => "a file's name of {} to {} bytes",
     };
-    said.say(template, &[Number(most as u64)]);
-}
-
-/// The piece of that place of a word's value, which is cut at each comma.
-fn piece_of(word: &str, place: usize) -> &str {
-    value_of(word).split(',').nth(place).unwrap_or("")
+    said.say(template, &[Number(least), Number(most), Number(most)]);
 }
 
 /// The text that comes twice: of a pair its name.
@@ -118,10 +103,17 @@ fn push_reason(said: &mut Line, word: &str, allowed: Allowed, reason: Reason) {
             said.say("name {} of {} is empty", &[number, name]);
         }
         Reason::Twice(place) => {
-            let text = Word(doubled(piece_of(word, place), allowed));
+            let text = Word(doubled(piece_of(value_of(word), place), allowed));
             said.say("'{}' stands twice in {}", &[text, name]);
         }
-        Reason::NoType(place) => push_untyped(said, name_of(word), piece_of(word, place), allowed),
+        Reason::NoType(place) => {
+            push_untyped(
+                said,
+                name_of(word),
+                piece_of(value_of(word), place),
+                allowed,
+            );
+        }
         Reason::Other => {
             said.say("'{}' is refused: {} takes ", &[Word(word), name]);
             push_taken(said, word, allowed);

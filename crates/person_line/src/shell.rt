@@ -10,12 +10,22 @@ fn is_plain(byte: u8) -> bool {
 
 /// Whether a shell takes a word as it stands. Some shells take one that begins with `=` for the name of a program.
 fn is_bare(word: &str) -> bool {
-    !word.is_empty() && !word.starts_with('=') && word.bytes().all(is_plain)
+    for byte in word.as_bytes() {
+        if !is_plain(*byte) {
+            return false;
+        }
+    }
+    !word.is_empty() && !word.starts_with('=')
 }
 
 /// Whether all characters of a word are seen as they are: what is copied from the line would be another word otherwise.
 pub fn can_be_copied(word: &str) -> bool {
-    word.chars().all(is_seen)
+    for character in word.chars() {
+        if !is_seen(character) {
+            return false;
+        }
+    }
+    true
 }
 
 /// A plain text and a word behind it as one word that a shell takes. The line isn't whole where that can't be copied.
@@ -23,21 +33,17 @@ pub fn push_quoted(said: &mut Line, front: &str, word: &str) {
     if !can_be_copied(word) {
         said.give_up();
     }
-    if is_bare(word) {
-        said.push(front);
-        said.push(word);
-        return;
-    }
-    said.push("'");
+    let quote = if is_bare(word) { "" } else { "'" };
+    said.push(quote);
     said.push(front);
-    for (place, text) in word.split('\'').enumerate() {
+    for character in word.chars() {
         // No backslash is heard between single quotes, so one of them ends the text before it.
-        if place > 0 {
-            said.push("'\\''");
+        match character {
+            '\'' => said.push("'\\''"),
+            _ => said.push_char(character),
         }
-        said.push(text);
     }
-    said.push("'");
+    said.push(quote);
 }
 
 /// What stands before a file's name, so that no program takes it for an option.

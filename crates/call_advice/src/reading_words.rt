@@ -1,5 +1,4 @@
 // The words that the program is called with.
-use csv_source::NoMemory;
 use std::env;
 use std::io::ErrorKind;
 use std::rt::Env;
@@ -11,21 +10,25 @@ pub enum WordsFault {
     NoMemory,
 }
 
-impl From<NoMemory> for WordsFault {
-    fn from(_: NoMemory) -> Self {
-        WordsFault::NoMemory
+/// The fault of which an error speaks.
+fn fault_of(kind: ErrorKind) -> WordsFault {
+    match kind {
+        ErrorKind::InvalidData => WordsFault::NotUtf8,
+        _ => WordsFault::NoMemory,
     }
 }
 
 /// The words behind the program's own name.
 pub fn read_words<R: Env + AllocGlobal>(rt: &R) -> Result<Vec<String>, WordsFault> {
-    let args = env::args(rt).map_err(|error| match error.kind() {
-        ErrorKind::InvalidData => WordsFault::NotUtf8,
-        _ => WordsFault::NoMemory,
-    })?;
+    let args = match env::args(rt) {
+        Ok(args) => args,
+        Err(error) => return Err(fault_of(error.kind())),
+    };
     let mut words = Vec::new(rt.alloc());
     for word in args.skip(1) {
-        words.push(word).map_err(NoMemory::from)?;
+        if words.push(word).is_err() {
+            return Err(WordsFault::NoMemory);
+        }
     }
     Ok(words)
 }
