@@ -39,6 +39,7 @@ COMMANDS = [
     refused(["batch"], "NoFile", 1, "names of files are wanted after batch" + HELP),
     refused(["make"], "NoFile", 1, "a number is wanted after make" + HELP),
     refused(["make", "x"], "BadValue", 1, "'x' is no number: make takes one from 0 to 4294967295"),
+    refused(["make", "delim"], "BadValue", 1, "'delim' is no number: make takes one from 0 to 4294967295"),
     refused(
         ["batch", "a.csv,,b.csv"],
         "BadValue",

@@ -31,5 +31,5 @@ pub use pasted::{most_kept, push_pasted};
 pub use read_fault::push_read_fault;
 pub use reading_words::{WordsFault, read_words};
 pub use refusal::push_refusal;
-pub use rejects_call::push_rejects_call;
+pub use rejects_call::push_too_many_faults;
 pub use seen::SeenFile;

@@ -1,7 +1,8 @@
-// What lists the faults of a run that had more of them than wanted.
+// What is said of a run that had more faults than wanted.
 use crate::again::push_kept;
-use crate::given::subject;
-use person_line::Part::{File, Text};
+use crate::given::{command_word, subject};
+use csv_source::STANDARD_INPUT;
+use person_line::Part::{File, Number, Subject, Text};
 use person_line::{Line, can_be_copied};
 
 /// Options that `rejects` refuses, or that say how many faults may be, which are kept, and where the text goes. All others
@@ -17,7 +18,7 @@ const LEFT_OUT: [&str; 7] = [
 ];
 
 /// The call of `rejects` that lists the faults of a file: without the words other rows might be faulty.
-pub fn push_rejects_call(said: &mut Line, words: &[String]) {
+fn push_rejects_call(said: &mut Line, words: &[String]) {
     let mut kept = Line::new(said.alloc());
     push_kept(&mut kept, words, &LEFT_OUT);
     if kept.is_short() && can_be_copied(subject(words)) {
@@ -29,5 +30,23 @@ pub fn push_rejects_call(said: &mut Line, words: &[String]) {
         said.push(
             "csvload rejects lists them, with the same words but max_errors, to, table and output",
         );
+    }
+}
+
+/// That there are more faults than wanted, and what lists those of one file that can be read again.
+pub fn push_too_many_faults(said: &mut Line, words: &[String], bound: u64) {
+    let (command, file) = (command_word(words), subject(words));
+    match command {
+        "batch" => said.push("the files have"),
+        _ => said.say("{} has", &[Subject(file)]),
+    }
+    let template = match bound {
+        1 => " more than {} fault (max_errors)",
+        _ => " more than {} faults (max_errors)",
+    };
+    said.say(template, &[Number(bound)]);
+    if !matches!(command, "batch" | "rejects") && file != STANDARD_INPUT {
+        said.push(": ");
+        push_rejects_call(said, words);
     }
 }

@@ -1,8 +1,7 @@
 // What is said where a file isn't as the words want it.
-use call_advice::{command_word, file_at, push_rejects_call, subject};
-use csv_source::STANDARD_INPUT;
+use call_advice::file_at;
 use person_line::Line;
-use person_line::Part::{Bytes, Name, Number, Subject, Text};
+use person_line::Part::{Bytes, Name, Number, Subject};
 use report_text::Mismatch;
 use value_types::Names;
 
@@ -19,25 +18,6 @@ fn push_columns(said: &mut Line, names: &Names) {
     }
     if names.len() > COLUMNS_SAID {
         said.push(", ..");
-    }
-}
-
-/// That there are more faults than wanted, and what lists those of one file that can be read again.
-pub fn push_too_many_faults(said: &mut Line, words: &[String], bound: u64) {
-    let (command, file) = (command_word(words), subject(words));
-    if command == "batch" {
-        said.push("the files have");
-    } else {
-        said.say("{} has", &[Subject(file)]);
-    }
-    let faults = if bound == 1 { "fault" } else { "faults" };
-    said.say(
-        " more than {} {} (max_errors)",
-        &[Number(bound), Text(faults)],
-    );
-    if command != "batch" && command != "rejects" && file != STANDARD_INPUT {
-        said.push(": ");
-        push_rejects_call(said, words);
     }
 }
 

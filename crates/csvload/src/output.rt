@@ -37,6 +37,27 @@ fn joined(alloc: Global, name: &str, suffix: &str) -> Line {
     joined
 }
 
+/// What is said of a file that the system refused.
+fn template_of(kind: ErrorKind) -> &'static str {
+    match kind {
+        ErrorKind::NotFound | ErrorKind::NotADirectory => {
+            "'{}' can't be written: its folder isn't there"
+        }
+        ErrorKind::IsADirectory => "'{}' is a folder",
+        ErrorKind::InvalidInput => "'{}' is no regular file",
+        ErrorKind::PermissionDenied | ErrorKind::ReadOnlyFilesystem => {
+            "'{}' may not be written by you"
+        }
+        ErrorKind::StorageFull | ErrorKind::QuotaExceeded => {
+            "'{}' can't be written: the disk is full"
+        }
+        ErrorKind::AlreadyExists => {
+            "'{}.part' is there: another run is writing it, or one was ended; without one remove it"
+        }
+        _ => "'{}' can't be written",
+    }
+}
+
 impl Output {
     /// The file of a name, and of what else it is known by.
     pub fn of_name(alloc: Global, name: &str, is_database: bool) -> Result<Output, NoMemory> {
@@ -87,23 +108,7 @@ impl Output {
                 said.say("'{}' is there: a program has ", &[Name(beside)]);
                 "'{}' open, or ended badly with it"
             }
-            Unwritten::Refused(kind) => match kind {
-                ErrorKind::NotFound | ErrorKind::NotADirectory => {
-                    "'{}' can't be written: its folder isn't there"
-                }
-                ErrorKind::IsADirectory => "'{}' is a folder",
-                ErrorKind::InvalidInput => "'{}' is no regular file",
-                ErrorKind::PermissionDenied | ErrorKind::ReadOnlyFilesystem => {
-                    "'{}' may not be written by you"
-                }
-                ErrorKind::StorageFull | ErrorKind::QuotaExceeded => {
-                    "'{}' can't be written: the disk is full"
-                }
-                ErrorKind::AlreadyExists => {
-                    "'{}.part' is there: another run is writing it, or one was ended; without one remove it"
-                }
-                _ => "'{}' can't be written",
-            },
+            Unwritten::Refused(kind) => template_of(kind),
         };
         said.say(template, &[Name(self.name.text())]);
     }

@@ -1,6 +1,7 @@
 // A line on standard error that shows how far the reading has come.
-use csv_source::{NoMemory, STANDARD_INPUT};
-use person_line::ScreenLine;
+use csv_source::STANDARD_INPUT;
+use person_line::Part::Number;
+use person_line::{Line, ScreenLine};
 use std::alloc::Global;
 use std::fs;
 use std::io::Eprint;
@@ -27,15 +28,18 @@ pub struct ProgressLine<'a, R> {
 }
 
 /// How much was read, of how much where the file tells its size, which a pipe doesn't.
-fn progress_text(alloc: Global, read: u64, size: u64) -> Result<String, NoMemory> {
-    let is_told = 0 < size && read <= size;
-    let (read, size) = (read / MEGABYTE, size / MEGABYTE);
-    let text = if is_told {
-        format!(in alloc; "csvload: {read} of {size} MB read")?
+fn progress_line(alloc: Global, read: u64, size: u64) -> Line {
+    let template = if 0 < size && read <= size {
+        "csvload: {} of {} MB read"
     } else {
-        format!(in alloc; "csvload: {read} MB read")?
+        "csvload: {} MB read"
     };
-    Ok(text)
+    let mut said = Line::new(alloc);
+    said.say(
+        template,
+        &[Number(read / MEGABYTE), Number(size / MEGABYTE)],
+    );
+    said
 }
 
 impl<'a, R: Clock + Eprint + Files + AllocGlobal> ProgressLine<'a, R> {
@@ -76,8 +80,7 @@ impl<'a, R: Clock + Eprint + Files + AllocGlobal> ProgressLine<'a, R> {
             return;
         }
         self.next = now.checked_add(Duration::from_millis(STEP));
-        if let Ok(text) = progress_text(self.rt.alloc(), self.read, self.size) {
-            self.line.show(text.as_str());
-        }
+        self.line
+            .show(&progress_line(self.rt.alloc(), self.read, self.size));
     }
 }

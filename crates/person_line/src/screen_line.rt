@@ -1,6 +1,7 @@
 // A line on the terminal of standard error that is taken away before anything else is written there.
 ghost use Rattle.std.specs.Prelude.{◌≡◌};
 
+use crate::line::Line;
 use csv_source::{Failed, Sink};
 use std::io::Eprint;
 use std::sync::atomic::{AtomicBool, Ordering};
@@ -26,14 +27,14 @@ impl<'a, R: Eprint> ScreenLine<'a, R> {
         }
     }
 
-    /// Shows a text in place of the one that stands there. What can't be written is left out.
-    pub fn show(&self, text: &str) {
-        if self.is_over.load(Ordering::SeqCst) {
+    /// Shows a whole line in place of the one that stands there. What can't be written is left out.
+    pub fn show(&self, said: &Line) {
+        if self.is_over.load(Ordering::SeqCst) || !said.is_whole() {
             return;
         }
         self.is_shown.store(true, Ordering::SeqCst);
         let _ = self.rt.eprint(ERASE);
-        let _ = self.rt.eprint(text);
+        let _ = self.rt.eprint(said.text());
     }
 
     /// Takes the line away, where there is one, and shows none from then on.
