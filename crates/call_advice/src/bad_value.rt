@@ -95,27 +95,22 @@ fn doubled(piece: &str, allowed: Allowed) -> &str {
 
 /// Why a word's value is refused.
 fn push_reason(said: &mut Line, word: &str, allowed: Allowed, reason: Reason) {
-    let name = Text(name_of(word));
+    let (name, value) = (name_of(word), value_of(word));
     match reason {
-        Reason::TooMany(most) => said.say("{} takes {} at most", &[name, Number(most as u64)]),
+        Reason::TooMany(most) => {
+            said.say("{} takes {} at most", &[Text(name), Number(most as u64)]);
+        }
         Reason::Empty(place) => {
             let number = Number((place as u64).saturating_add(1));
-            said.say("name {} of {} is empty", &[number, name]);
+            said.say("name {} of {} is empty", &[number, Text(name)]);
         }
         Reason::Twice(place) => {
-            let text = Word(doubled(piece_of(value_of(word), place), allowed));
-            said.say("'{}' stands twice in {}", &[text, name]);
+            let text = Word(doubled(piece_of(value, place), allowed));
+            said.say("'{}' stands twice in {}", &[text, Text(name)]);
         }
-        Reason::NoType(place) => {
-            push_untyped(
-                said,
-                name_of(word),
-                piece_of(value_of(word), place),
-                allowed,
-            );
-        }
+        Reason::NoType(place) => push_untyped(said, name, piece_of(value, place), allowed),
         Reason::Other => {
-            said.say("'{}' is refused: {} takes ", &[Word(word), name]);
+            said.say("'{}' is refused: {} takes ", &[Word(word), Text(name)]);
             push_taken(said, word, allowed);
         }
     }

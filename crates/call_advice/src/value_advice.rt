@@ -44,12 +44,12 @@ fn push_types_meant(said: &mut Line, words: &[String], index: usize) -> bool {
         push_pairs(said, value);
         return true;
     }
-    let has_space = value.contains(", ") || is_cut_by_space(words, index);
-    if has_space && !value.contains(':') {
+    let is_cut = value.contains(", ") || is_cut_by_space(words, index);
+    let has_space = is_cut && !value.contains(':');
+    if has_space {
         said.push("no space stands behind a comma");
-        return true;
     }
-    false
+    has_space
 }
 
 /// What is said behind why a value is refused.
