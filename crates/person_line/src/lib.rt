@@ -1,5 +1,6 @@
 //! A line for a person: how texts, words, bytes and numbers are put on it, so that nothing of them moves the cursor of a
-//! terminal, and a word that stands in a command can be copied into a shell.
+//! terminal, and a word that stands in a command can be copied into a shell; and a line on a terminal that is taken away before
+//! anything else is written.
 //! No clause says what stands on a line: the program's lines are tried from outside, by `.ci/messages`.
 //! It serves the crates above alone.
 #![tactic(auto)]
