@@ -1,5 +1,5 @@
 -- With what was found given, the same is found.
-use Rattle.std.proofs.Common.{◌≡◌, ℕ, ◌≤◌, Bool, cond, true, false, not, ◌&&◌, ◌==◌, List, [], ◌∷◌, length, map, max, Option, Some, None, replicate, refl, sym, ap, subst, ◌∙◌, arith, inl, inr}
+use Rattle.std.proofs.Common.{◌≡◌, ℕ, ◌≤◌, Bool, cond, true, false, not, ◌&&◌, ◌==◌, List, [], ◌∷◌, length, map, max, Option, Some, None, replicate, take, refl, sym, ap, subst, ◌∙◌, arith, inl, inr}
 use Rattle.std.specs.Str.{byte}
 use Rattle.std.proofs.lemmas.Bool.{and_parts, cases_Bool, not-true}
 use Rattle.byte_classes.specs.Dialect.{Marks, is_byte}
@@ -16,7 +16,9 @@ use Rattle.csv_sniffer.specs.ColumnTypes.{final_types, detected_types}
 use Rattle.csv_sniffer.specs.Fixed.{fixed, fixed_types, fixes_types}
 use Rattle.csv_sniffer.specs.LineEnd.{newline_of}
 use Rattle.csv_sniffer.specs.NamedTypes.{types_by_name}
-use Rattle.csv_sniffer.specs.Noticed.{idle_quote, is_detected, noticed_again}
+use Rattle.csv_sniffer.specs.Noticed.{idle_quote, is_detected, noticed_again, with_zeros}
+use Rattle.csv_sniffer.specs.ZeroColumns.{zero_columns}
+use Rattle.csv_sniffer.specs.declared.zero_columns.TheConstants.{ZERO_ROWS}
 use Rattle.csv_sniffer.specs.Sniffed.{column_count, has_whole_row, has_header, first_if, behind_first_if, behind_row, sniffed_under, sniffed}
 use Rattle.csv_sniffer.specs.declared.found.Sniffed.{Sniffed}
 use Rattle.csv_sniffer.proofs.FixedDialect.{chosen_again}
@@ -137,7 +139,7 @@ module _ (o : Options) (sample : List ℕ) (whole : Bool) (accepted : IsAccepted
         names = final_names o.names d (count_is i) (first_if (header_is i) rows);
         types = typed i;
         data_start = behind_row sample (first_if (header_is i) spans);
-        noticed = record s.noticed { other_delim = None; idle_quote = idle_again i };
+        noticed = with_zeros (record s.noticed { other_delim = None; idle_quote = idle_again i }) (zero_columns o d (typed i) (behind_first_if (header_is i) (take ZERO_ROWS rows)));
       }
 
   pub sniffed_again : sniffed again sample whole ≡ record s { noticed = noticed_again s.noticed }

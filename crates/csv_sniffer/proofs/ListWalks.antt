@@ -1,11 +1,14 @@
 -- Along lists, element by element.
-use Rattle.std.proofs.Common.{◌≡◌, ◌≤◌, ℕ, ◌+◌, Bool, true, false, List, take, drop, Some, sym, ap, ◌∙◌, inl, inr, arith}
+use Rattle.std.proofs.Common.{◌≡◌, ◌≢◌, ◌≤◌, ◌<◌, ℕ, ◌+◌, Bool, true, false, List, length, take, drop, get_or, set, Some, refl, sym, ap, ◌∙◌, inl, inr, arith}
 use Rattle.std.specs.Prelude.{◌||◌, slice_get}
 use Rattle.std.specs.Int.{from_bool}
 use Rattle.std.specs.List.{count_by, list_any}
 use Rattle.std.proofs.lemmas.Bool.{cases_Bool}
+use Rattle.std.proofs.lemmas.Bool.Decides.{eqb_tells}
+use Rattle.std.proofs.lemmas.Grind.{get_or-set_at}
+use Rattle.std.proofs.lemmas.List.{get_or-set_other, get_or-take, get_or_default, length-take}
 use Rattle.std.proofs.lemmas.List.Sums.{count_by_more_no, count_by_more_yes}
-use Rattle.std.proofs.lemmas.Option.{get_or_from_slice_get, slice_get_within}
+use Rattle.std.proofs.lemmas.Option.{get_or_from_slice_get, slice_get_read, slice_get_within}
 use Rattle.load_options.proofs.ListSteps.{drop-at}
 
 -- a test of the elements from a place on, of which the answer for the first is known
@@ -25,3 +28,30 @@ count_on p xs i x count at so =
 pub one_at_most : (b : Bool) → from_bool b ≤ 1
 one_at_most true = omega arith
 one_at_most false = omega arith
+
+-- an element of a front
+pub slice_get-take : {X : Type 0} (n : ℕ) (xs : List X) (i : ℕ) (x : X) → i < n → slice_get xs i ≡ Some x → slice_get (take n xs) i ≡ Some x
+slice_get-take n xs i x few at =
+    slice_get_read (take n xs) (length (take n xs)) i x refl (omega (arith, few, slice_get_within xs i x at, length-take n xs))
+    (sym (get_or-take n xs i x few ∙ get_or_from_slice_get xs i x x at))
+
+-- ---- one place more, along which each element takes a step
+
+module _ {X : Type 0} (step : ℕ → X → X) (start now : List X) (at : ℕ) (next : X) (within : at < length now) where
+  abbrev SteppedBelow : ℕ → List X → Type 0
+  SteppedBelow n after = (k : ℕ) (other : X) → k < n → get_or after k other ≡ step k (get_or start k other)
+
+  abbrev SameFrom : ℕ → List X → Type 0
+  SameFrom n after = (k : ℕ) (other : X) → n ≤ k → get_or after k other ≡ get_or start k other
+
+  pub stepped_below : (default : X) → next ≡ step at (get_or now at default) → SameFrom at now → SteppedBelow at now → SteppedBelow (at + 1) (set now at next)
+  stepped_below default is above below k other lt = elim (eqb_tells k at) [
+    | inl same ↦
+        get_or-set_at now at k next other same.1 within ∙ is
+        ∙ ap (step at) (get_or_default now at default other within ∙ above at other (omega arith))
+        ∙ ap (λ j. step j (get_or start j other)) (sym same.1)
+    | inr apart ↦ (let ne : k ≢ at = apart.1 in get_or-set_other now at k next other ne ∙ below k other (omega (arith, lt, ne)))
+  ]
+
+  pub same_from : SameFrom at now → SameFrom (at + 1) (set now at next)
+  same_from above k other le = let ne : k ≢ at = omega (arith, le) in get_or-set_other now at k next other ne ∙ above k other (omega (arith, le))

@@ -1,5 +1,5 @@
 -- Where the type of each column is given by its name, what is found is what is found under these types in a list.
-use Rattle.std.proofs.Common.{◌≡◌, ℕ, ◌≤◌, Bool, true, false, ◌&&◌, not, cond, max, List, [], ◌∷◌, map, length, replicate, Some, refl, sym, ap, ◌∙◌, arith}
+use Rattle.std.proofs.Common.{◌≡◌, ℕ, ◌≤◌, Bool, true, false, ◌&&◌, not, cond, max, List, [], ◌∷◌, map, length, replicate, take, Some, refl, sym, ap, ◌∙◌, arith}
 use Rattle.std.specs.Prelude.{option_and_then, slice_get, unwrap_or}
 use Rattle.std.proofs.lemmas.List.{length-map}
 use Rattle.byte_classes.specs.Dialect.{Marks}
@@ -16,6 +16,9 @@ use Rattle.csv_sniffer.specs.ColumnTypes.{detected_types, final_types}
 use Rattle.csv_sniffer.specs.Laws.{listed}
 use Rattle.csv_sniffer.specs.LineEnd.{newline_of}
 use Rattle.csv_sniffer.specs.NamedTypes.{place_of, type_given, types_by_name}
+use Rattle.csv_sniffer.specs.Noticed.{noticed_in, with_zeros}
+use Rattle.csv_sniffer.specs.ZeroColumns.{zero_columns}
+use Rattle.csv_sniffer.specs.declared.zero_columns.TheConstants.{ZERO_ROWS}
 use Rattle.csv_sniffer.specs.Sniffed.{chosen_dialect, column_count, has_whole_row, has_header, first_if, behind_first_if, behind_row, sniffed}
 use Rattle.csv_sniffer.proofs.CountLaws.{some_column, length-final_names, length-final_types}
 use Rattle.csv_sniffer.proofs.NamedTypes.{none_given}
@@ -115,5 +118,5 @@ module _ (o : Options) (sample : List ℕ) (whole : Bool) (types : List ColumnTy
         names = named i;
         types = typed i;
         data_start = behind_row sample (first_if (same i) spans);
-        noticed = (sniffed o sample whole).noticed;
+        noticed = with_zeros (noticed_in o sample whole dialect spans) (zero_columns o dialect (typed i) (behind_first_if (same i) (take ZERO_ROWS rows)));
       }

@@ -2,7 +2,6 @@
 use Rattle.std.specs.Prelude.{ℕ, ◌==◌, ◌&&◌, ◌||◌, not, nat_lt, Bool, false, if◌then◌else◌, List, [], ◌∷◌, ◌++◌, map, filter, flat_map, codes, Option, Some, None}
 use Rattle.std.specs.List.{list_any}
 use Rattle.std.specs.Option.{is_some}
-use Rattle.std.specs.Char.{is_ascii_digit}
 use Rattle.std.specs.Str.{byte, bytes_eq}
 use Rattle.value_types.specs.declared.types.ColumnType.{ColumnType}
 use Rattle.value_types.specs.declared.types.ColumnType.TheVariants as types
@@ -12,6 +11,7 @@ use Rattle.csv_source.specs.Lists.{is_empty}
 use Rattle.csv_sniffer.specs.ColumnTypes.{type_of_values}
 use Rattle.csv_sniffer.specs.SeparatorLine.{tells_delimiter}
 use Rattle.csv_sniffer.specs.Header.{is_varchar}
+use Rattle.csv_sniffer.specs.ZeroColumns.{has_leading_zero}
 use Rattle.csv_sniffer.specs.declared.explaining.entries.ColumnSample.{ColumnSample}
 use Rattle.csv_sniffer.specs.declared.explaining.entries.Entry.{Entry}
 use Rattle.csv_sniffer.specs.declared.explaining.hints.Hint.{Hint}
@@ -19,12 +19,6 @@ use Rattle.csv_sniffer.specs.declared.explaining.hints.Hint.TheVariants as hints
 use Rattle.csv_sniffer.specs.declared.found.Sniffed.{Sniffed}
 
 -- ---- leading zeros
-
--- whether a text begins with a zero and one more digit
-abbrev pub has_leading_zero : List ℕ → Bool
-has_leading_zero [] = false
-has_leading_zero (a ∷ []) = false
-has_leading_zero (a ∷ b ∷ text) = (a == byte "0") && is_ascii_digit b
 
 -- a column of numbers of which one has a leading zero, and whose name can stand in a list
 abbrev pub loses_zeros : ColumnSample → Bool

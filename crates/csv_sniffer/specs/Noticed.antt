@@ -1,10 +1,11 @@
 -- What is noticed beside what is found (this loader's profile).
-use Rattle.std.specs.Prelude.{ℕ, ◌==◌, ◌&&◌, not, nat_le, nat_lt, Bool, true, false, if◌then◌else◌, List, [], ◌∷◌, length, map, count_by, Option, None}
-use Rattle.std.specs.List.{list_any}
-use Rattle.std.specs.Option.{is_none}
+use Rattle.std.specs.Prelude.{ℕ, ◌==◌, ◌&&◌, not, nat_le, nat_lt, Bool, true, false, if◌then◌else◌, List, [], ◌∷◌, length, map, count_by, take, Option, None}
+use Rattle.std.specs.List.{find, list_any}
+use Rattle.std.specs.Option.{is_none, option_map_or}
 use Rattle.std.specs.Str.{byte}
 use Rattle.byte_classes.specs.Dialect.{Marks, is_byte}
 use Rattle.byte_classes.specs.Fault.{has_byte}
+use Rattle.byte_classes.specs.LineEnds.{line_ends}
 use Rattle.load_options.specs.declared.options.Choice.{Choice}
 use Rattle.load_options.specs.declared.options.Choice.TheVariants.{Detect, Nothing, Byte}
 use Rattle.load_options.specs.declared.options.Options.{Options}
@@ -59,15 +60,40 @@ is_detected (Byte b) = false
 abbrev pub idle_quote : Options → Marks → Score → Option ℕ
 idle_quote o d score = if is_detected o.quote && not (is_byte d.quote (byte "\"")) && (score.closed == 0) then d.quote else None
 
+-- ---- lines above the rows
+
+-- whether a row has so many fields
+abbrev pub has_fields : List ℕ → Marks → ℕ → Span → Bool
+has_fields sample d count span = field_count d (span_bytes sample span) == count
+
+-- the first row that has so many fields, where the first of all hasn't
+abbrev pub later_row : List ℕ → Marks → ℕ → List Span → Option Span
+later_row sample d count [] = None
+later_row sample d count (first ∷ spans) = if has_fields sample d count first then None else find (has_fields sample d count) spans
+
+-- how many physical lines end before a row
+abbrev pub lines_before : List ℕ → Span → ℕ
+lines_before sample span = line_ends None (take span.0 sample)
+
+-- how many stand above the first row that has as many fields as most have, where the first of all hasn't
+abbrev pub lines_above : List ℕ → Marks → ℕ → List Span → ℕ
+lines_above sample d mode spans = option_map_or (lines_before sample) (later_row sample d mode spans) 0
+
 -- ---- all of it
 
--- what is noticed under the dialect with its sampled rows
+-- what is noticed under the dialect with its sampled rows, before there are types
 abbrev pub noticed_in : Options → List ℕ → Bool → Marks → List Span → Noticed
 noticed_in o sample whole d spans = let rows = map (span_bytes sample) spans in record {
   other_delim = other_delim_in o sample whole d spans;
   comment_lines = comment_lines o d rows;
   idle_quote = idle_quote o d (score_rows d rows);
+  lines_above = lines_above sample d (score_rows d rows).mode spans;
+  zero_columns = 0;
 }
+
+-- the same with columns of numbers that would lose leading zeros, once the types are known
+abbrev pub with_zeros : Noticed → ℕ → Noticed
+with_zeros n columns = record n { zero_columns = columns }
 
 -- what is noticed with what was found given: the delimiter and the quote are given then
 abbrev pub noticed_again : Noticed → Noticed

@@ -3,13 +3,14 @@ ghost use Rattle.std.specs.Prelude.{◌≡◌, ◌<◌, ℕ, List, Some, IfOk, l
 ghost use Rattle.std.specs.List.{list_any};
 ghost use Rattle.byte_classes.specs.Fault.{has_byte};
 ghost use Rattle.load_options.specs.Accepted.{IsAccepted};
+ghost use Rattle.dialect_rank.specs.Sampled.{Span};
 ghost use Rattle.dialect_rank.specs.Score.{score_rows};
-ghost use Rattle.csv_sniffer.specs.Noticed.{are_like_comments, begins_with, comment_lines, hash_count, idle_quote, is_hash_alone, noticed_in, other_delim_in};
+ghost use Rattle.csv_sniffer.specs.Noticed.{are_like_comments, begins_with, comment_lines, has_fields, hash_count, idle_quote, is_hash_alone, lines_above, lines_before, noticed_in, other_delim_in};
 ghost use Rattle.csv_sniffer.specs.Rows.{AreRows, row_texts};
 
 use crate::found::Noticed;
 use crate::sampled_rows::SampledRows;
-use byte_classes::Dialect;
+use byte_classes::{Dialect, count_line_ends};
 use csv_source::NoMemory;
 use dialect_rank::{Score, may_hint, other_delim, scored_candidates};
 use load_options::{Choice, Options};
@@ -141,7 +142,48 @@ fn idle_quote(options: &Options, dialect: &Dialect, score: &Score) -> Option<u8>
     }
 }
 
-/// What is noticed under the best dialect, whose rows and score these are.
+/// Whether a row has so many fields.
+fn has_fields(
+    rows: &SampledRows,
+    row: usize,
+    count: u64,
+    fields: &mut Fields,
+) -> Result<bool, NoMemory>
+    requires rows { AreRows rows.now.dialect rows.now.sample.now rows.now.spans }
+    requires within { row < length rows.now.spans }
+    ensures { IfOk result (λ has. (span : Span) → slice_get rows.now.spans row ≡ Some span → has ≡ has_fields rows.now.sample.now rows.now.dialect count span) }
+{
+    rows.read(row, fields)?;
+    Ok(fields.count() as u64 == count)
+}
+
+/// How many physical lines end before a row.
+fn lines_before(rows: &SampledRows, row: usize) -> u64
+    requires rows { AreRows rows.now.dialect rows.now.sample.now rows.now.spans }
+    requires within { row < length rows.now.spans }
+    ensures { (span : Span) → slice_get rows.now.spans row ≡ Some span → result ≡ lines_before rows.now.sample.now span }
+{
+    let (from, _) = rows.spans.get(row);
+    count_line_ends(&rows.sample[..from], None)
+}
+
+/// How many lines stand above the first row that has so many fields, where the first of all hasn't. Nearly always it has.
+fn lines_above(rows: &SampledRows, mode: u64, fields: &mut Fields) -> Result<u64, NoMemory>
+    requires rows { AreRows rows.now.dialect rows.now.sample.now rows.now.spans }
+    ensures { IfOk result (λ lines. lines ≡ lines_above rows.now.sample.now rows.now.dialect mode rows.now.spans) }
+{
+    if rows.spans.len() == 0 || has_fields(rows, 0, mode, fields)? {
+        return Ok(0);
+    }
+    for row in 1..rows.spans.len() {
+        if has_fields(rows, row, mode, fields)? {
+            return Ok(lines_before(rows, row));
+        }
+    }
+    Ok(0)
+}
+
+/// What is noticed under the best dialect, whose rows and score these are, before there are types.
 pub fn noticed(
     alloc: Global,
     options: &Options,
@@ -158,5 +200,7 @@ pub fn noticed(
         other_delim: other_delim_in(alloc, options, rows, whole, score)?,
         comment_lines: comment_lines(alloc, options, rows, score)?,
         idle_quote: idle_quote(options, &rows.dialect, score),
+        lines_above: lines_above(rows, score.mode, &mut Fields::new(alloc))?,
+        zero_columns: 0,
     })
 }

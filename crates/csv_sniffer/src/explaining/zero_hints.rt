@@ -1,33 +1,16 @@
 //! Columns of numbers that would lose leading zeros.
 ghost use Rattle.std.specs.Prelude.{◌≡◌, ◌==◌, ◌++◌, flat_map, OnOk};
 ghost use Rattle.std.specs.List.{list_any};
-ghost use Rattle.value_types.specs.OfType.{same_type};
-ghost use Rattle.value_types.specs.declared.types.ColumnType.TheVariants.{Bigint};
 ghost use Rattle.csv_sniffer.specs.declared.explaining.entries.Entry.{Entry};
-ghost use Rattle.csv_sniffer.specs.Hints.{has_leading_zero, loses_zeros, zero_hint};
+ghost use Rattle.csv_sniffer.specs.Hints.{loses_zeros, zero_hint};
+ghost use Rattle.csv_sniffer.specs.ZeroColumns.{has_leading_zero};
 
 use crate::explaining::entries::{ColumnSample, Entry};
 use crate::explaining::hints::Hint;
+use crate::of_type::is_bigint;
+use crate::zero_columns::has_leading_zero;
 use csv_source::{Bytes, NoMemory};
 use std::alloc::Global;
-use value_types::ColumnType;
-
-/// Whether a text begins with a zero and one more digit.
-fn has_leading_zero(text: &[u8]) -> bool
-    ensures { result ≡ has_leading_zero text.now }
-{
-    match text {
-        [first, second, ..] => *first == b'0' && second.is_ascii_digit(),
-        _ => false,
-    }
-}
-
-/// Whether the type is BIGINT.
-fn is_bigint(ty: ColumnType) -> bool
-    ensures { result ≡ same_type ty Bigint }
-{
-    matches!(ty, ColumnType::Bigint)
-}
 
 /// Whether a comma is among the bytes.
 fn has_comma(bytes: &[u8]) -> bool

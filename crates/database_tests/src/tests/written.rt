@@ -38,6 +38,8 @@ fn found(alloc: Global) -> Result<Sniffed, NoMemory>
             other_delim: None,
             comment_lines: 0,
             idle_quote: None,
+            lines_above: 0,
+            zero_columns: 0,
         },
     })
 }
