@@ -78,6 +78,9 @@ def check_options() -> None:
     padded = {"f.csv": b"a,b\n1,2\n3\n"}
     word = advised(["load", "f.csv", "delim=,"], padded, "(null_padding=true) takes")
     assert b"row|3|\\N\n" in shell(f"csvload load f.csv delim=, {word}", padded)[1], word
+    titled = {"f.csv": b"Prices\nby region\nid,name,amount\n1,a,2\n2,b,3\n"}
+    word = advised(["load", "f.csv"], titled, "(skip=\\d+) passes over")
+    assert b"column|0|BIGINT|id\n" in shell(f"csvload load f.csv {word}", titled)[1], word
     swapped = {"f.csv": b"n,t\n1,a\n", "g.csv": b"t,n\na,1\n"}
     word = advised(["batch", "f.csv,g.csv"], swapped, "(same_header=true) tells")
     same(shell(f"csvload batch f.csv,g.csv {word}", swapped)[0], 4, word)
@@ -152,7 +155,7 @@ def check_pasted() -> None:
     # From standard input, and not without the explanation or of names that can't be seen.
     said = run(["sniff", "-", "explain=true"], {}, b"a\n1\n")[2]
     assert said.startswith("csvload: csvload load - delim="), said
-    for words, files in [(["sniff", "f.csv"], fixed), (["sniff", "a\nb.csv", "explain=true"], {"a\nb.csv": b"a\n1\n"})]:
+    for words, files in [(["sniff", "f.csv", "types=BIGINT,VARCHAR"], fixed), (["sniff", "a\nb.csv", "explain=true"], {"a\nb.csv": b"a\n1\n"})]:
         same(run(words, files)[2], "", words)
 
 

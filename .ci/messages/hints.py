@@ -1,4 +1,4 @@
-"""Hints after an answer: at another delimiter, where one column was found, at lines and a first line that are no rows, at a quote that quotes nothing, and at words."""
+"""Hints after an answer: at another delimiter or byte, where one column was found, at lines that are no rows, at a quote that quotes nothing, at numbers that lose zeros, and at words."""
 
 from messages.runs import Case, check, run, same
 
@@ -77,7 +77,7 @@ COMMENTED = [
     (b"id,n\n#ff0000,1\n#00ff00,2\n", ""),
     (b"id\n# a\n# b\n1\n", TWO),
     (b"id\n# a\n1\n2\n", ""),
-    (b"# a\n# b\n# c\n", ""),
+    (b"#a\n#b\n#c\n", ""),
     (b" # a\nid,n\n1,2\n", ""),
     (b"id,n\n\"#\",2\n#\n3,4\n", ONE),
 ]
@@ -110,6 +110,120 @@ def check_noticed() -> None:
     # What the hint says is so.
     status, text, said = run(["load", "f.csv", "comment=#"], {"f.csv": COMMENTED[1][0]})
     assert (status, said) == (0, "") and b"\nrow|1|2\nrow|3|4\nrows|2\n" in text, (text, said)
+
+
+def zeros(word: str) -> str:
+    return f"csvload: hint: leading zeros are lost; '{word}' keeps them\n"
+
+
+ZIP = zeros("column_types=zip:VARCHAR")
+
+UNNAMED = "csvload: hint: leading zeros are lost; 'column_types=NAME:VARCHAR' keeps those of the column NAME\n"
+
+CITIES = {"f.csv": b"zip,city\n00501,Holtsville\n"}
+
+SIX = {"f.csv": b"a,b,c,d,e,f\n" + b"01,02,03,04,05,06\n"}
+
+
+def rows_before(count: int, width: int = 1) -> dict[str, bytes]:
+    """A file in which so many rows of ones stand before one of numbers that begin with a zero, below a header."""
+    header = ",".join(f"c{n}" for n in range(width))
+    ones, last = ",".join(["1"] * width), ",".join(["1"] * (width - 1) + ["01"])
+    return {"f.csv": "\n".join([header, *[ones] * count, last, ""]).encode()}
+
+
+# Columns of numbers that lose leading zeros, and those that miss that by a byte or a row.
+ZEROS = [
+    Case(["load", "f.csv"], 0, ZIP, None, CITIES),
+    Case(["summary", "f.csv"], 0, ZIP, None, CITIES),
+    Case(["convert", "f.csv"], 0, ZIP, None, CITIES),
+    Case(["sniff", "f.csv"], 0, ZIP, None, CITIES),
+    Case(["batch", "f.csv,f.csv"], 0, ZIP, None, CITIES),
+    Case(["rejects", "f.csv"], 0, "", None, CITIES),
+    Case(["convert", "f.csv", "to=sqlite"], 0, UNNAMED, None, CITIES),
+    Case(["load", "f.csv", "types=BIGINT,VARCHAR"], 0, "", None, CITIES),
+    Case(["load", "f.csv", "all_varchar=true"], 0, "", None, CITIES),
+    Case(["load", "f.csv", "column_types=zip:BIGINT"], 0, "", None, CITIES),
+    Case(["load", "f.csv", "column_types=city:VARCHAR"], 0, zeros("column_types=city:VARCHAR,zip:VARCHAR"), None, CITIES),
+    Case(["load", "f.csv", "nullstr=00501"], 0, "", None, CITIES),
+    Case(["load", "f.csv"], 0, "", None, {"f.csv": b"n,city\n0,a\n10,b\n-01,c\n+02,d\n"}),
+    Case(["load", "f.csv"], 0, "", None, {"f.csv": b"n,city\n0x,a\n01,b\n"}),
+    Case(["load", "f.csv"], 0, zeros("column_types=a:VARCHAR,b:VARCHAR,c:VARCHAR,d:VARCHAR,e:VARCHAR, .."), None, SIX),
+    Case(["load", "f.csv", "column_types=b:BIGINT"], 0, zeros("column_types=b:BIGINT,a:VARCHAR,c:VARCHAR,d:VARCHAR,e:VARCHAR,f:VARCHAR"), None, SIX),
+    # A name with a comma can't stand in the word; one with a bar isn't shown as it is.
+    Case(["load", "f.csv", "delim=;"], 0, "", None, {"f.csv": b"a,b;c\n01;x\n"}),
+    Case(["load", "f.csv", "delim=,"], 0, UNNAMED, None, {"f.csv": b"a|b,c\n01,x\n"}),
+    Case(["load", "f.csv"], 0, zeros("column_types=my n:VARCHAR"), None, {"f.csv": b"my n,t\n01,x\n"}),
+    Case(["load", "f.csv", "quote="], 0, "csvload: hint: leading zeros are lost; 'column_types=o'\\''n:VARCHAR' keeps them\n", None, {"f.csv": b"o'n,t\n01,x\n"}),
+    # The first 50 rows are looked at, with the header, and the first 64 columns.
+    Case(["load", "f.csv"], 0, zeros("column_types=c0:VARCHAR"), None, rows_before(48)),
+    Case(["load", "f.csv"], 0, "", None, rows_before(49)),
+    Case(["load", "f.csv"], 0, zeros("column_types=c63:VARCHAR"), None, rows_before(1, 64)),
+    Case(["load", "f.csv"], 0, "", None, rows_before(1, 65)),
+]
+
+
+def check_zeros() -> None:
+    """Beside what each run says: with the word that is named the zeros stay."""
+    check(ZEROS)
+    status, text, said = run(["load", "f.csv", "column_types=zip:VARCHAR"], CITIES)
+    assert (status, said) == (0, "") and b"row|00501|Holtsville\n" in text, (text, said)
+
+
+def separated(count: int, separator: str) -> str:
+    return f"csvload: hint: the first lines have {count} '{separator}' each; 'delim={separator}' cuts there\n"
+
+
+# Lines of one column that another byte would cut, and those that miss that by a byte.
+SEPARATED = [
+    (b"a~b~c\nd~e~f\n", separated(2, "~")),
+    (b"a~b~c\nd~e~f", separated(2, "~")),
+    (b"\xef\xbb\xbfa~b~c\nd~e~f\n", separated(2, "~")),
+    (b"a:b\r\nc:d\r\n", separated(1, ":")),
+    (b"a^b\nc^d\n", separated(1, "^")),
+    (b"a b c\nd e f\n", separated(2, " ")),
+    (b"a:b c\nd:e f\n", separated(1, ":")),
+    (b"a~b~c\nd~e f\n", ""),
+    (b"a~b~c\n", ""),
+    (b"a  b\nc  d\n", ""),
+    (b"abc\ndef\n", ""),
+    # Of a column that isn't of texts nothing is said.
+    (b"2024-01-01 10:00:00\n2024-01-02 11:00:00\n", ""),
+    # Of lines that aren't known as a whole neither.
+    (b"a~b\n" + b"c" * 60 + b"~d\n", ""),
+]
+
+
+def other_header(words: str) -> str:
+    return f"csvload: hint: the header hasn't as many fields as the rows; {words}, and a text with the delimiter in it stands between quotes\n"
+
+
+ONE_ABOVE = other_header("'skip=1' passes over the first line")
+
+# Files whose header has another number of fields than each row below it, and such that miss that.
+HEADED = [
+    (b"Prices\nid,n,t\na,b,c\n", ONE_ABOVE),
+    (b"Prices\n\nid,n,t\na,b,c\n", other_header("'skip=2' passes over the first 2 lines")),
+    (b"sentence\nHello, world\nGood night, moon\n", ONE_ABOVE),
+    (b"Prices,,\nid,n,t\na,b,c\n", ""),
+    (b"\nid,n,t\na,b,c\n", ""),
+]
+
+
+def check_cut() -> None:
+    """Each hint is silenced by its option."""
+    for rows, hint in SEPARATED:
+        for command in ["load", "summary", "sniff", "batch"]:
+            same(run([command, "f.csv"], {"f.csv": rows})[2], hint, (command, rows))
+        same(run(["load", "f.csv", "delim=,"], {"f.csv": rows})[2], "", rows)
+    for rows, hint in HEADED:
+        for command in ["load", "convert", "rejects"]:
+            same(run([command, "f.csv"], {"f.csv": rows})[2], hint, (command, rows))
+        for option in ["header=true", "skip=0", "null_padding=true"]:
+            same(run(["load", "f.csv", option], {"f.csv": rows})[2], "", (option, rows))
+    # What the hints say is so.
+    assert b"row|a|b|c\nrow|d|e|f\n" in run(["load", "f.csv", "delim=~", "header=false"], {"f.csv": SEPARATED[0][0]})[1]
+    assert b"column|0|VARCHAR|id\n" in run(["load", "f.csv", "skip=1"], {"f.csv": HEADED[0][0]})[1]
 
 
 AB, BA = b"a,b\nx,y\n", b"b,a\ny,x\n"
@@ -148,4 +262,6 @@ def main() -> None:
     check(HINTS)
     check_skip()
     check_noticed()
+    check_zeros()
+    check_cut()
     check(WORDS)

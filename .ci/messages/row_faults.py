@@ -193,6 +193,8 @@ FAR = b"n,t\n" + (b"1," + b"t" * 37 + b"\n") * 105_000 + b"x,t\n"
 
 DAYS = b"id,day\n1,31/12/2024\n"
 
+TITLED = b"Prices of March\nby region\n\nid,name,amount\n1,a,2\n2,b,3\n"
+
 # What helps, by the kind of the fault and what was given.
 HELPS = [
     # too few columns
@@ -201,6 +203,12 @@ HELPS = [
     helped(["load", "f.csv", "delim=,"], THREE + b"\x1bb", "null_padding=true takes missing columns as null; " + ANY),
     helped(["load", "f.csv", "delim=,"], THREE + b"# c\n5,6\n", "comment=# passes over lines that begin with #; " + ANY),
     helped(["load", "f.csv", "delim=,", "comment="], THREE + b"# c\n5,6\n", "null_padding=true takes missing columns as null; " + ANY),
+    # a title above the rows
+    helped(["load", "f.csv"], TITLED, "skip=3 passes over the first 3 lines; " + ANY),
+    helped(["load", "f.csv"], b"\xef\xbb\xbf" + TITLED.replace(b"\n", b"\r\n"), "skip=3 passes over the first 3 lines; " + ANY),
+    helped(["load", "f.csv", "header=false"], b"Prices\nid,n,t\na,b,c\n", "skip=1 passes over the first line; " + ANY),
+    helped(["load", "f.csv", "skip=0"], TITLED, "null_padding=true takes missing columns as null; " + ANY),
+    helped(["load", "f.csv"], TITLED[TITLED.index(b"id,") :] + b"by region\n", "null_padding=true takes missing columns as null; " + ANY),
     # too many
     helped(["load", "f.csv", "delim=,"], b'a,b\n1,2\n1, "x, y"\n', "a quote behind a space is text; " + ANY),
     helped(["load", "f.csv", "delim=;"], b'a;b\n1;2\n1; "x; y"\n', "a quote behind a space is text; " + ANY),

@@ -7,19 +7,21 @@ use person_line::Part::File;
 /// What begins the line of the report that has the words.
 const WORDS: &[u8] = b"words|";
 
-/// The most bytes of a report's first line.
-const FRONT: usize = 200;
+/// How many bytes of a text tell what hints need: the first line of a report, and its columns or a table's names.
+const FRONT: usize = 4096;
 
 /// Options in whose place the words stand, and those of the explanation.
 const REPLACED: [&str; 7] = [
     "explain", "output", "delim", "quote", "escape", "header", "types",
 ];
 
-/// How much of the text that is written has to be known: all that explains a file, and the first line of a batch's report.
+/// How much of the text that is written has to be known: all that explains a file, and else the front, where it is for a
+/// person to read.
 pub fn most_kept(words: &[String]) -> usize {
     match command_word(words) {
         "sniff" if gives(words, "explain", "true") => usize::MAX,
-        "batch" => FRONT,
+        "convert" if gives(words, "to", "sqlite") => 0,
+        "batch" | "convert" | "load" | "sniff" | "summary" => FRONT,
         _ => 0,
     }
 }

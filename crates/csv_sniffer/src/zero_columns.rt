@@ -20,7 +20,7 @@ use std::alloc::Global;
 use value_types::ColumnType;
 
 /// How many sampled rows are looked at, with the header: all of them would cost as much as to sniff does.
-pub const ZERO_ROWS: usize = 100;
+pub const ZERO_ROWS: usize = 50;
 
 /// How many columns are, so that a word has a bit for each.
 pub const ZERO_COLUMNS: usize = 64;

@@ -38,12 +38,12 @@ fn is_named(words: &[String], name: &str) -> bool {
 }
 
 /// Whether the type of the column of that name was found.
-fn is_found(words: &[String], name: &str) -> bool {
+pub fn is_found(words: &[String], name: &str) -> bool {
     !is_given(words, "types") && !gives(words, "all_varchar", "true") && !is_named(words, name)
 }
 
 /// Whether a word can give the type of the column of that name, and isn't long.
-fn can_be_given(name: &str) -> bool {
+pub fn can_be_given(name: &str) -> bool {
     !name.is_empty() && !name.contains(',') && name.chars().count() <= MOST && can_be_copied(name)
 }
 

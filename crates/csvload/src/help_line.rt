@@ -1,5 +1,6 @@
 // What helps against a first fault.
 use crate::cast_help::push_cast_help;
+use crate::cut_hint::push_skip;
 use call_advice::{
     Content, NOT_UTF8, count_of_pieces, gives, is_given, number_given, push_again, push_content,
     value_of, word_giving,
@@ -62,6 +63,14 @@ impl FirstFault<'_> {
     /// Whether rows look like comment lines, and nothing is said of these.
     fn may_have_comments(&self) -> bool {
         0 < self.sniffed.noticed.comment_lines && !is_given(self.words, "comment")
+    }
+
+    /// Whether the row stands above the first one of the first file that has as many fields as most, and lines may be passed over.
+    fn is_above_rows(&self) -> bool {
+        matches!(self.reject.error_type, ErrorKind::MissingColumns)
+            && self.reject.file_id == 0
+            && self.reject.line <= self.sniffed.noticed.lines_above
+            && !is_given(self.words, "skip")
     }
 
     /// Whether the row is the byte that ends a text of DOS, at the end of the file.
@@ -148,6 +157,9 @@ pub fn push_help(said: &mut Line, fault: &FirstFault<'_>) {
         said.push("same_header=true tells a file with another header; ");
     } else if fault.is_of_columns() && fault.may_have_comments() {
         said.push("comment=# passes over lines that begin with #; ");
+    } else if fault.is_above_rows() {
+        push_skip(said, "", fault.sniffed.noticed.lines_above);
+        said.push("; ");
     } else if fault.is_dos_end() {
         return said.push("byte 1A ends a file of DOS; ignore_errors=true passes over it");
     } else {

@@ -5,7 +5,7 @@ use person_line::Line;
 use person_line::Part::{Number, Text};
 
 /// The mark that may stand before a text in UTF-8.
-const MARK: &[u8] = b"\xef\xbb\xbf";
+pub const MARK: &[u8] = b"\xef\xbb\xbf";
 
 /// What begins a line that tells the delimiter to a spreadsheet.
 const SEPARATOR: &str = "sep=";

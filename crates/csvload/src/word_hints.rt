@@ -92,7 +92,7 @@ pub fn push_word_hints(said: &mut Line, run: Run<'_>) {
         push_quotes(said, value_of(word));
     }
     if command_word(run.words) == "batch"
-        && has_header(run.words, run.report)
+        && has_header(run.words, run.text)
         && let Some(name) = other_header(run.words, run.seen)
     {
         said.next_line();
