@@ -34,9 +34,6 @@ module _ (Changed : ℕ → Column → Column → Type 0) where
         ∙ so.behind number other (omega (arith, low));
   }
 
-  pub every_one : (place : ℕ) (old now : List Column) → SoFar Changed place old now → length old ≤ place → EachColumn Changed old now
-  every_one place old now so end = record { count = so.count; each = λ number other within. so.before number other (omega (arith, within, end)) within }
-
   -- where nothing is a change too
   pub those_at_least : (place : ℕ) (old now : List Column) → SoFar Changed place old now → ((number : ℕ) (column : Column) → Changed number column column) → EachColumn Changed old now
   those_at_least place old now so same = record {
@@ -54,3 +51,12 @@ so_far_weaker Strong Weak weaker place old now so = record {
   before = λ number other below within. weaker number (get_or old number other) (get_or now number other) (so.before number other below within);
   behind = so.behind;
 }
+
+-- a column is set
+pub set_each : (Changed : Column → Column → Type 0) → ((column : Column) → Changed column column) → (columns : List Column) (place : ℕ) (was column : Column) → was ≡ get_or columns place was → place < length columns →
+    Changed was column → EachColumn (λ _. Changed) columns (set columns place column)
+set_each Changed same columns place was column at within changed =
+    those_at_least (λ _. Changed) (place + 1) columns (set columns place column)
+    (one_more (λ _. Changed) place columns columns was column (record { count = refl; before = λ number other _ _. same (get_or columns number other); behind = λ _ _ _. refl }) within
+    (subst (λ c. Changed c column) at changed))
+    (λ _. same)

@@ -1,5 +1,5 @@
 -- Cells that are pushed one after another as a row.
-use Rattle.std.proofs.Common.{◌≡◌, ℕ, zero, suc, ◌+◌, ◌≤◌, sym, ap, ◌∙◌, subst, arith, List, [], ◌∷◌, ◌++◌, length, take, true, Some}
+use Rattle.std.proofs.Common.{◌≡◌, ℕ, zero, suc, ◌+◌, ◌<◌, ◌≤◌, sym, ap, ◌∙◌, subst, arith, List, [], ◌∷◌, ◌++◌, length, take, true, Some}
 use Rattle.std.specs.Prelude.{slice_get}
 use Rattle.std.proofs.lemmas.Bool.{and_parts, false≢true}
 use Rattle.std.proofs.lemmas.List.{length-take, take_more}
@@ -8,6 +8,12 @@ use Rattle.value_types.specs.OfType.{fits, fit_all}
 use Rattle.value_types.specs.declared.types.ColumnType.{ColumnType}
 use Rattle.value_types.specs.Datum.{Datum, null}
 use Rattle.column_store.specs.RowsOfColumns.{FitsColumn}
+
+-- a cell fits only where there is a column
+pub column_there : (tys : List ColumnType) (number : ℕ) (cell : Datum) → FitsColumn tys number cell → number < length tys
+column_there [] number cell h = absurd h
+column_there (ty ∷ tys) zero cell h = omega arith
+column_there (ty ∷ tys) (suc number) cell h = let rest : number < length tys = column_there tys number cell h in omega arith
 
 fits_each : (tys : List ColumnType) (cells : List Datum) (number : ℕ) (cell : Datum) → fit_all tys cells ≡ true → slice_get cells number ≡ Some cell → FitsColumn tys number cell
 fits_each [] [] number cell h is = absurd (none-some cell is)

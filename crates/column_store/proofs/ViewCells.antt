@@ -1,7 +1,6 @@
 -- Columns that are seen by slices.
-use Rattle.std.proofs.Common.{◌≡◌, ℕ, suc, ◌+◌, ◌<◌, ◌≤◌, Bool, true, false, List, [], ◌∷◌, ◌++◌, Some, None, length, map, take, drop, get_or, inl, inr, refl, sym, ap, ◌∙◌, subst, arith}
+use Rattle.std.proofs.Common.{◌≡◌, ℕ, suc, ◌+◌, ◌<◌, ◌≤◌, Bool, true, false, List, [], ◌∷◌, ◌++◌, Some, None, length, map, take, drop, get_or, refl, sym, ap, ◌∙◌, subst, arith}
 use Rattle.std.specs.Prelude.{All, if◌then◌else◌}
-use Rattle.std.proofs.lemmas.Bool.{cases_lt}
 use Rattle.std.proofs.lemmas.List.{length-map, map-append, take_more, take_all}
 use Rattle.std.proofs.lemmas.List.Elements.{All-nil, All-cons, All-head, All-tail, All-push}
 use Rattle.value_types.specs.Datum.{Datum, null}
@@ -14,6 +13,7 @@ use Rattle.column_store.specs.Nullable.{datum_by, options_of}
 use Rattle.column_store.specs.ColumnCells.{cells_of}
 use Rattle.column_store.specs.RowsOfColumns.{rows_of}
 use Rattle.column_store.specs.IsFilled.{IsFilled}
+use Rattle.column_store.proofs.Filled.{cells_at_least}
 use Rattle.column_store.proofs.Options.{length-options}
 use Rattle.column_store.proofs.Rows.{length-rows_of}
 
@@ -89,11 +89,5 @@ module _ (columns : List Column) (rows begun spare : ℕ) (filled : IsFilled col
   pub as_many : length now ≡ length columns
   as_many = sym (length-map now view_cells) ∙ ap length same ∙ length-map columns cells_of
 
-  at_least : (number : ℕ) (other : Column) → number < length columns → rows ≤ length (cells_of (get_or columns number other))
-  at_least number other within = elim (cases_lt number begun) [
-    | inl early ↦ (let longer = filled.longer number other early in omega (arith, longer))
-    | inr late ↦ (let waiting = filled.waiting number other late within in omega (arith, waiting))
-  ]
-
   pub rows_long : All (λ v. HasRows (length (view_cells v)) v) now → All (HasRows (length (rows_of (map cells_of columns) rows))) now
-  rows_long long = subst (λ (n : ℕ). All (HasRows n) now) (sym count_is) (long_views rows columns now same at_least long)
+  rows_long long = subst (λ (n : ℕ). All (HasRows n) now) (sym count_is) (long_views rows columns now same (cells_at_least filled) long)

@@ -29,22 +29,14 @@ pub struct Chunk {
 }
 
 impl Model for Chunk {
-    ghost use Rattle.std.specs.Prelude.{map, take};
     ghost use Rattle.column_store.specs.ChunkView.{ChunkView};
 
     ghost Value = { ChunkView };
 
-    ghost use Rattle.column_store.specs.ColumnCells.{cells_of, type_of};
+    ghost use Rattle.column_store.specs.ChunkView.{chunk_view};
     ghost use Rattle.column_store.specs.IsFilled.{IsFilled};
-    ghost use Rattle.value_types.specs.Views.{row_at};
-    ghost use Rattle.column_store.specs.RowsOfColumns.{rows_of};
 
-    ghost view = { λ c. record {
-      types = map type_of c.columns.items;
-      rows = rows_of (map cells_of c.columns.items) c.rows;
-      unfinished = row_at (take c.begun (map cells_of c.columns.items)) c.rows;
-      spare = c.spare;
-    } };
+    ghost view = { λ c. chunk_view c.columns.items c.rows c.begun c.spare };
 
     ghost invariant = { λ c. IsFilled c.columns.items c.rows c.begun c.spare };
 }

@@ -1,10 +1,8 @@
-use Rattle.std.proofs.Common.{◌≡◌, ◌∙◌, ap, arith, map, subst, take}
+use Rattle.std.proofs.Common.{◌≡◌, ◌∙◌, ap, arith, max, subst}
 use Rattle.std.proofs.lemmas.List.{with_items_is}
-use Rattle.column_store.specs.ColumnCells.{cells_of, type_of}
+use Rattle.column_store.specs.ChunkView.{chunk_view}
 use Rattle.column_store.specs.ColumnChanges.{EachColumn, KeepsCells}
-use Rattle.value_types.specs.Views.{row_at}
-use Rattle.column_store.specs.RowsOfColumns.{rows_of}
-use Rattle.column_store.proofs.Filled.{on_err, same_cells, same_types, same_view}
+use Rattle.column_store.proofs.Filled.{on_err, seen_kept}
 use Rattle.column_store.proofs.chunk.Chunk.reserve_rows.Goals as goal
 
 pub returns-in_err-reserve-clause-err : goal.returns-in_err-reserve-clause-err
@@ -12,19 +10,16 @@ returns-in_err-reserve-clause-err c =
     let s = c.self.inside in
     let ys = c.reserve.new.columns in
     let kept : EachColumn (λ _. KeepsCells) s.columns.items ys = subst (λ cs. EachColumn (λ _. KeepsCells) cs ys) c.deref_mut.ensures.value c.reserve.ensures.same in
-    let is = with_items_is s.columns ys (omega (arith, kept.count)) in
-    let cells = ap (map cells_of) is ∙ same_cells s.columns.items ys kept in
     on_err c.from_residual.result
-    (same_view (ap (map type_of) is ∙ same_types s.columns.items ys kept ∙ (λ i. (c.self.view_is i).types)) (ap (λ cs. rows_of cs s.rows) cells ∙ (λ i. (c.self.view_is i).rows))
-    (ap (λ cs. row_at (take s.begun cs) s.rows) cells ∙ (λ i. (c.self.view_is i).unfinished)) (λ i. (c.self.view_is i).spare))
+    (ap (λ cs. chunk_view cs s.rows s.begun s.spare) (with_items_is s.columns ys (omega (arith, kept.count))) ∙ seen_kept s.columns.items ys kept s.rows s.begun s.spare ∙ c.self.view_is)
 
 pub returns-clause-ok : goal.returns-clause-ok
 returns-clause-ok c =
     let s = c.self.inside in
     let ys = c.reserve.new.columns in
+    let more = c.args.more in
     let kept : EachColumn (λ _. KeepsCells) s.columns.items ys = subst (λ cs. EachColumn (λ _. KeepsCells) cs ys) c.deref_mut.ensures.value c.reserve.ensures.same in
-    let is = with_items_is s.columns ys (omega (arith, kept.count)) in
-    let cells = ap (map cells_of) is ∙ same_cells s.columns.items ys kept in
     let spare : s.spare ≡ c.args.self.now.spare = λ i. (c.self.view_is i).spare in
-    same_view (ap (map type_of) is ∙ same_types s.columns.items ys kept ∙ (λ i. (c.self.view_is i).types)) (ap (λ cs. rows_of cs s.rows) cells ∙ (λ i. (c.self.view_is i).rows))
-    (ap (λ cs. row_at (take s.begun cs) s.rows) cells ∙ (λ i. (c.self.view_is i).unfinished)) (omega (arith, c.if-more-self.false))
+    let most : more ≡ max c.args.self.now.spare more = omega (arith, c.if-more-self.false, spare) in
+    ap (λ cs. chunk_view cs s.rows s.begun more) (with_items_is s.columns ys (omega (arith, kept.count))) ∙ seen_kept s.columns.items ys kept s.rows s.begun more
+    ∙ (λ i. record (c.self.view_is i) { spare = most i })

@@ -1,24 +1,22 @@
-use Rattle.std.proofs.Common.{◌≡◌, ◌∙◌, ◌+◌, ◌-◌, sym, ap, arith, length, map, refl, subst, take, min}
+use Rattle.std.proofs.Common.{◌≡◌, ◌∙◌, ◌+◌, ◌-◌, [], ap, arith, length, min, subst, take}
 use Rattle.std.proofs.lemmas.List.{take_min, with_items_is}
-use Rattle.column_store.specs.ColumnCells.{cells_of, type_of}
+use Rattle.column_store.specs.ChunkView.{chunk_view}
 use Rattle.column_store.specs.ColumnChanges.{EachColumn, IsCut}
-use Rattle.column_store.specs.RowsOfColumns.{rows_of}
-use Rattle.column_store.proofs.Rows.{length-rows_of}
-use Rattle.column_store.proofs.Filled.{rows_cut, same_view, types_cut}
+use Rattle.column_store.proofs.Filled.{rows_seen, seen_cut}
 use Rattle.column_store.proofs.chunk.Chunk.truncate.Goals as goal
 
 pub returns : goal.returns
 returns c =
     let s = c.self.inside in
-    let xs = s.columns.items in
+    let old = c.args.self.now in
+    let count = c.min-rows.result in
+    let left = s.spare + (s.rows - count) in
     let ys = c.cut.new.columns in
-    let cut : EachColumn (λ _. IsCut c.min-rows.result) xs ys = subst (λ cs. EachColumn (λ _. IsCut c.min-rows.result) cs ys) c.deref_mut.ensures.value c.cut.ensures in
-    let kept = with_items_is s.columns ys (omega (arith, cut.count)) in
-    let all = rows_of (map cells_of xs) s.rows in
-    let fewer : take c.min-rows.result all ≡ take c.args.rows all =
-    ap (λ n. take n all) (c.min-rows.ensures ∙ ap (λ n. min c.args.rows n) (sym (length-rows_of (map cells_of xs) s.rows))) ∙ take_min c.args.rows all in
-    let spare : s.spare + (s.rows - c.min-rows.result) ≡ s.spare + (length all - c.args.rows) = omega (arith, c.min-rows.ensures, length-rows_of (map cells_of xs) s.rows) in
-    same_view
-    (ap (map type_of) kept ∙ types_cut xs s.rows s.begun s.spare c.self.invariant ys c.min-rows.result (omega (arith, c.min-rows.ensures)) cut ∙ (λ i. (c.self.view_is i).types))
-    (ap (λ cs. rows_of (map cells_of cs) c.min-rows.result) kept ∙ rows_cut xs s.rows s.begun s.spare c.self.invariant ys c.min-rows.result (omega (arith, c.min-rows.ensures)) cut ∙ fewer ∙ (λ i. take c.args.rows (c.self.view_is i).rows))
-    refl (spare ∙ (λ i. (c.self.view_is i).spare + (length (c.self.view_is i).rows - c.args.rows)))
+    let cut : EachColumn (λ _. IsCut count) s.columns.items ys = subst (λ cs. EachColumn (λ _. IsCut count) cs ys) c.deref_mut.ensures.value c.cut.ensures in
+    let rows = rows_seen c.self.invariant c.self.view_is in
+    let spare : s.spare ≡ old.spare = λ i. (c.self.view_is i).spare in
+    let fewer : take count old.rows ≡ take c.args.rows old.rows = ap (λ n. take n old.rows) (c.min-rows.ensures ∙ ap (λ n. min c.args.rows n) rows) ∙ take_min c.args.rows old.rows in
+    let more : left ≡ old.spare + (length old.rows - c.args.rows) = omega (arith, c.min-rows.ensures, rows, spare) in
+    ap (λ cs. chunk_view cs count 0 left) (with_items_is s.columns ys (omega (arith, cut.count)))
+    ∙ seen_cut c.self.invariant c.self.view_is ys count (omega (arith, c.min-rows.ensures)) cut left
+    ∙ (λ i. record old { rows = fewer i; unfinished = []; spare = more i })
