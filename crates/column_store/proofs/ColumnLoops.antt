@@ -12,13 +12,6 @@ pub record SoFar (Changed : ℕ → Column → Column → Type 0) (place : ℕ) 
   pub behind : (number : ℕ) (other : Column) → place ≤ number → get_or now number other ≡ get_or old number other
 
 module _ (Changed : ℕ → Column → Column → Type 0) where
-  pub none_yet : (columns : List Column) → SoFar Changed 0 columns columns
-  none_yet columns = record {
-    count = refl;
-    before = λ number other below within. absurd (let no : ⊥ = omega (arith, below) in no);
-    behind = λ number other low. refl;
-  }
-
   pub one_more : (place : ℕ) (old now : List Column) (was column : Column) → SoFar Changed place old now → place < length now →
       Changed place (get_or now place was) column → SoFar Changed (place + 1) old (set now place column)
   one_more place old now was column so within changed = record {

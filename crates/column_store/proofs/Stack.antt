@@ -95,6 +95,33 @@ row_of_chunk chunks rest number row place other inside below is =
 pub row_of_last : (chunks : List ChunkView) (rest : List (List Datum)) (row place : ℕ) → row ≡ length (rows_in chunks) + place → slice_get (rows_in chunks ++ rest) row ≡ slice_get rest place
 row_of_last chunks rest row place is = ap (slice_get (rows_in chunks ++ rest)) is ∙ slice_get-append_right (rows_in chunks) rest place
 
+-- the chunk of this number holds a row, so many rows behind its begin, or the last one does
+module _ (chunks : List ChunkView) (rest : List (List Datum)) (ends : List ℕ) (placed : ends ≡ ends_from 0 chunks) (number row low : ℕ) (low_is : low ≡ begin_of ends number) (behind : begin_of ends number ≤ row) where
+  begin : low ≡ begin_of (ends_from 0 chunks) number
+  begin = low_is ∙ ap (λ es. begin_of es number) placed
+
+  module _ (inside : number < length chunks) (chunk : ChunkView) (at : chunk ≡ get_or chunks number chunk) (before : row < get_or ends number 0) where
+    pub within_chunk : row - low < length chunk.rows
+    within_chunk =
+        let end : get_or ends number 0 ≡ begin_of (ends_from 0 chunks) number + length (get_or chunks number chunk).rows = ap (λ es. get_or es number 0) placed ∙ end_of_chunk chunks number chunk inside in
+        omega (arith, behind, begin, before, ap (λ (c : ChunkView). length c.rows) at)
+
+    pub row_there : slice_get (rows_in chunks ++ rest) row ≡ slice_get chunk.rows (row - low)
+    row_there =
+        let same : length chunk.rows ≡ length (get_or chunks number chunk).rows = ap (λ (c : ChunkView). length c.rows) at in
+        row_of_chunk chunks rest number row (row - low) chunk inside (omega (arith, within_chunk, same)) (omega (arith, begin, low_is, behind))
+        ∙ sym (ap (λ (c : ChunkView). slice_get c.rows (row - low)) at)
+
+  module _ (last : number ≡ length chunks) where
+    all : low ≡ length (rows_in chunks)
+    all = begin ∙ rows_before_all chunks number last
+
+    pub within_last : row < length (rows_in chunks ++ rest) → row - low < length rest
+    within_last below = omega (arith, all, low_is, behind, below, length-append (rows_in chunks) rest)
+
+    pub row_in_last : slice_get (rows_in chunks ++ rest) row ≡ slice_get rest (row - low)
+    row_in_last = row_of_last chunks rest row (row - low) (omega (arith, all, low_is, behind))
+
 -- ---- chunks that are joined
 
 pub rows_in-append : (chunks more : List ChunkView) → rows_in (chunks ++ more) ≡ rows_in chunks ++ rows_in more

@@ -86,8 +86,5 @@ module _ (columns : List Column) (rows begun spare : ℕ) (filled : IsFilled col
   pub rows_are : view_rows now (length (rows_of (map cells_of columns) rows)) ≡ rows_of (map cells_of columns) rows
   rows_are = (λ i. rows_of (same i) (count_is i))
 
-  pub as_many : length now ≡ length columns
-  as_many = sym (length-map now view_cells) ∙ ap length same ∙ length-map columns cells_of
-
   pub rows_long : All (λ v. HasRows (length (view_cells v)) v) now → All (HasRows (length (rows_of (map cells_of columns) rows))) now
   rows_long long = subst (λ (n : ℕ). All (HasRows n) now) (sym count_is) (long_views rows columns now same (cells_at_least filled) long)

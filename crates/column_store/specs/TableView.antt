@@ -1,6 +1,5 @@
 -- What a table is to its callers (this loader's profile).
 use Rattle.std.specs.Prelude.{ℕ, List, Option, slice_get}
-use Rattle.std.specs.List.{filter_map}
 use Rattle.std.specs.Option.{option_and_then}
 use Rattle.value_types.specs.declared.types.ColumnType.{ColumnType}
 use Rattle.value_types.specs.Datum.{Datum}
@@ -11,10 +10,6 @@ pub record TableView : Type 0 where
   pub types : List ColumnType
   pub rows : List (List Datum)
   pub spare : ℕ
-
--- the cells of a column, from the first row to the last
-abbrev pub column_cells : List (List Datum) → ℕ → List Datum
-column_cells rows column = filter_map (λ row. slice_get row column) rows
 
 -- the cell of a column and a row
 abbrev pub cell_of : List (List Datum) → ℕ → ℕ → Option Datum

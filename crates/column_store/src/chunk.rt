@@ -29,11 +29,10 @@ pub struct Chunk {
 }
 
 impl Model for Chunk {
-    ghost use Rattle.column_store.specs.ChunkView.{ChunkView};
+    ghost use Rattle.column_store.specs.ChunkView.{ChunkView, chunk_view};
 
     ghost Value = { ChunkView };
 
-    ghost use Rattle.column_store.specs.ChunkView.{chunk_view};
     ghost use Rattle.column_store.specs.IsFilled.{IsFilled};
 
     ghost view = { λ c. chunk_view c.columns.items c.rows c.begun c.spare };
