@@ -30,23 +30,9 @@ module _ {X : Type 0} (cells_of : X → List Datum) (row : ℕ) where
   cell_more columns i column now more cell within is at so_far pushed = rw add-one
       (pushed ∙ (λ j. so_far j ++ sym (ap (λ x. get_or (cells_of x) row null) (sym is) ∙ got (cells_of column) row cell at) j ∷ []) ∙ sym (cells_suc columns i column within))
 
-  cell_at : (columns : List X) (i : ℕ) (d : X) → i < length columns → slice_get (row_at (map cells_of columns) row) i ≡ Some (get_or (cells_of (get_or columns i d)) row null)
-  cell_at [] i d within = absurd (let no : ⊥ = omega (arith, within) in no)
-  cell_at (x ∷ columns) zero d within = refl
-  cell_at (x ∷ columns) (suc i) d within = cell_at columns i d (omega (arith, within))
-
-  -- the cell of a column
-  pub cell_there : (columns : List X) (i : ℕ) (column : X) (cell : Datum) → i < length columns → column ≡ get_or columns i column → slice_get (cells_of column) row ≡ Some cell
-      → slice_get (row_at (map cells_of columns) row) i ≡ Some cell
-  cell_there columns i column cell within is at =
-      cell_at columns i column within ∙ ap Some (ap (λ x. get_or (cells_of x) row null) (sym is) ∙ got (cells_of column) row cell at)
-
   width : (columns : List X) → length (row_at (map cells_of columns) row) ≡ length columns
   width [] = refl
   width (x ∷ columns) = ap suc (width columns)
-
-  pub whole_row : (columns : List X) (n : ℕ) → length columns ≤ n → take n (row_at (map cells_of columns) row) ≡ row_at (map cells_of columns) row
-  whole_row columns n past = let long = width columns in take_all n (row_at (map cells_of columns) row) (omega (arith, long, past))
 
   -- all cells of a row
   pub all_cells : (columns : List X) (n : ℕ) (now : List Datum) → length columns ≤ n → now ≡ take n (row_at (map cells_of columns) row) → now ≡ row_at (map cells_of columns) row
