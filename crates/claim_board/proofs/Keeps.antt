@@ -3,15 +3,15 @@ use Rattle.std.proofs.Common.{◌≡◌, ℕ, zero, suc, ◌+◌, ◌%◌, ◌^�
 use Rattle.std.proofs.lemmas.List.Elements.{All-append, All-nil}
 use Rattle.std.proofs.lemmas.List.Sums.{sum_by-cons, sum_by-append}
 use Rattle.std.proofs.lemmas.Bool.Decides.{nat_tests}
+use Rattle.atomic_table.specs.Table.{State, Me, step, keeps, stepped, Allows, Splits, Joins, Final, Seen}
+use Rattle.atomic_table.proofs.Lists.{at_set, at_snoc}
+use Rattle.claim_board.specs.declared.rule.DrawerView.{DrawerView}
+use Rattle.claim_board.specs.Rule.{times, once_below, finished, Fits, Kept, IsKept}
+use Rattle.claim_board.specs.Steps.{drew, all_drawn, one_fewer, newcomer, joined, over, Claims}
 use mathlib.Core.Logic.{dite}
 use mathlib.Core.Option.{none, some, some-injective, some-ne-none}
 use native.Mathlib.Decide.{dec_le}
 use lib.ListN.{get_elem?}
-use Rattle.atomic_table.specs.Table.{State, Me, step, keeps, stepped, opening, Allows, Splits, Joins, Final, Seen}
-use Rattle.atomic_table.proofs.Lists.{at_set, at_snoc}
-use Rattle.claim_board.specs.declared.rule.DrawerView.{DrawerView}
-use Rattle.claim_board.specs.Rule.{times, once_below, finished, Fits, Kept, IsKept}
-use Rattle.claim_board.specs.Steps.{fresh, drew, all_drawn, one_fewer, newcomer, joined, over, Claims}
 
 abbrev Mine : Type 0
 Mine = Me (Unit {0}) DrawerView
@@ -47,22 +47,6 @@ min_left m n h = omega arith
 
 min_right : (m n : ℕ) → n ≤ m → min m n ≡ n
 min_right m n h = omega arith
-
-pub opens : (count : ℕ) → count ≤ 4294967296 → IsKept count (opening (0 ∷ []) [] (fresh count 63))
-opens count small = (
-  refl,
-  record {
-    most = small;
-    budget = omega arith;
-    reached = omega arith;
-    once = λ x. grind (arith, nat_tests);
-    each = first;
-  },
-)
-  where
-    first : (id : ℕ) (v : DrawerView) → get_elem? (fresh count 63 ∷ []) id ≡ some v → Fits count 0 v
-    first zero v e = subst (λ (u : DrawerView). Fits count 0 u) (some-injective (fresh count 63) v e) record { ended = λ z. absurd (cc); done = λ z. absurd (cc); drawn = All-nil _; same = λ _. refl }
-    first (suc id) v e = absurd (some-ne-none v (sym e))
 
 -- the rule after a step that makes the word m and this view w
 placed : (count : ℕ) (s : State (Unit {0}) DrawerView) (m m' id : ℕ) (me : Mine) (w : DrawerView) → length s.words ≡ 1 → m' ≡ m → Kept count m (set s.views id w)
@@ -155,15 +139,6 @@ joins count id other v w alive s kept at apart there = let n : ℕ = get_or s.wo
         each = others count n n views other over (omega arith) (others count n n s.views id b (omega arith) k.each both) gone;
       },
     )
-
--- what the last word tells
-pub record Ends (count : ℕ) (v : DrawerView) (n : ℕ) : Type 0 where
-  pub drawn : All (λ x. (x < n) × (x < count)) v.drawn
-  pub done : v.done ≡ true → count ≤ n
-
-pub ends : (count id : ℕ) (v : DrawerView) (ws : List ℕ) (xs : List (Unit {0})) → Final (Seen (IsKept count) id v) ws xs → Ends count v (get_or ws 0 0)
-ends count id v ws xs (s, seen, is, _, _) = let f = seen.0.1.each id v seen.1 in
-    subst (λ (l : List ℕ). Ends count v (get_or l 0 0)) is record { drawn = f.drawn; done = f.done }
 
 -- the view of a drawer that is the only one
 sole : (views : List DrawerView) (id : ℕ) (v : DrawerView) → get_elem? views id ≡ some v → length views ≤ 1 → views ≡ v ∷ []
