@@ -1,8 +1,7 @@
 -- A row that is found where it begins, counted at the front of the bytes from there on or read by its place.
-use Rattle.std.proofs.Common.{◌≡◌, ℕ, ◌+◌, ◌-◌, ◌<◌, ◌≤◌, true, false, List, drop, take, length, get_or, refl, sym, ◌∙◌, ap, arith}
-use Rattle.std.proofs.lemmas.List.{drop_more, length-drop}
+use Rattle.std.proofs.Common.{◌≡◌, ℕ, ◌+◌, ◌<◌, ◌≤◌, true, false, List, drop, length, get_or, refl, sym, ◌∙◌, ap}
+use Rattle.std.proofs.lemmas.List.{drop_more}
 use Rattle.byte_classes.specs.declared.class.Class.{Class}
-use Rattle.byte_classes.specs.declared.class.Class.TheVariants as class
 use Rattle.byte_classes.specs.Class.{class_of, same_class}
 use Rattle.byte_classes.specs.Dialect.{Marks}
 use Rattle.quote_automaton.specs.declared.state.State.TheVariants.{RowStart}
@@ -10,13 +9,12 @@ use Rattle.quote_automaton.specs.RowEnd.{row_len}
 use Rattle.quote_automaton.specs.Rows.{begins_comment, begins_row}
 use Rattle.row_fields.specs.Split.{IsSplit, Split, row_from}
 use Rattle.dialect_rank.specs.declared.shape.RowShape.{RowShape}
-use Rattle.dialect_rank.specs.declared.row_count.RowCount.{RowCount}
-use Rattle.dialect_rank.specs.RowCount.{HasCount}
 use Rattle.dialect_rank.specs.Sampled.{span_bytes}
 use Rattle.dialect_rank.specs.Score.{closed_fields}
 use Rattle.dialect_rank.specs.Shape.{closed_in, shape_in, shape_of}
 use Rattle.dialect_rank.specs.Walk.{IsRowAt}
 use Rattle.dialect_rank.proofs.Shapes.{closed-is, shape-is}
+use Rattle.byte_classes.specs.declared.class.Class.TheVariants as class
 
 -- ---- a row begins where no comment does
 
@@ -32,35 +30,7 @@ begins_no_comment class.Other begins = refl
 pub no_comment : (d : Marks) (sample : List ℕ) (at : ℕ) → at < length sample → begins_row RowStart (class_of d (get_or sample at 0)) ≡ true → begins_comment d (drop at sample) ≡ false
 no_comment d sample at below begins = ap (begins_comment d) (drop_more sample at 0 below) ∙ begins_no_comment (class_of d (get_or sample at 0)) begins
 
-no_comment_begins : (c : Class) → same_class c class.Comment ≡ false → begins_row RowStart c ≡ true
-no_comment_begins class.Lf other = refl
-no_comment_begins class.Cr other = refl
-no_comment_begins class.Delim other = refl
-no_comment_begins class.Quote other = refl
-no_comment_begins class.Escape other = refl
-no_comment_begins class.Comment other = absurd (let no : ⊥ = cc in no)
-no_comment_begins class.Other other = refl
-
-pub begins_here : (d : Marks) (sample : List ℕ) (at : ℕ) → at < length sample → begins_comment d (drop at sample) ≡ false → begins_row RowStart (class_of d (get_or sample at 0)) ≡ true
-begins_here d sample at below other = no_comment_begins (class_of d (get_or sample at 0)) (sym (ap (begins_comment d) (drop_more sample at 0 below)) ∙ other)
-
 -- ---- what it counts for
-
-pub counted_at : (d : Marks) (sample : List ℕ) (at : ℕ) (row : RowCount) → at ≤ length sample → HasCount d (drop at sample) row →
-    IsRowAt d sample at (record { from = at; end = at + row.end; shape = record { fields = row.fields; sound = true }; closed = row.quoted })
-counted_at d sample at row within has =
-    let bytes : List ℕ = drop at sample in
-    let count : at + row.end - at ≡ 0 + row_len d bytes 0 - 0 = omega (arith, has.len) in
-    let same : span_bytes sample (at, at + row.end) ≡ row_from d bytes 0 = ap (λ n. take n bytes) count in
-    record {
-      from = refl;
-      end = ap (λ n. at + n) has.len;
-      high = omega (arith, has.within, length-drop at sample, within);
-      counts = record {
-        shape = (λ i. record { fields = has.fields i; sound = sym has.sound i }) ∙ ap (shape_of d) (sym same);
-        closed = has.closed ∙ ap (closed_fields d) (sym same);
-      };
-    }
 
 pub read_at : (d : Marks) (sample : List ℕ) (at end : ℕ) (shape : RowShape) (closed : ℕ) (split : Split) → end ≡ at + row_len d sample at → end ≤ length sample → IsSplit d (row_from d sample at) split →
     shape ≡ shape_in split → closed ≡ closed_in split → IsRowAt d sample at (record { from = at; end = end; shape = shape; closed = closed })
