@@ -1,7 +1,5 @@
 -- A text is pushed run by run.
-use Rattle.std.proofs.Common.{◌≡◌, ℕ, ◌+◌, ◌-◌, ◌<◌, List, [], ◌∷◌, ◌++◌, length, ◌∙◌, ap, arith, length-append}
-use Rattle.std.specs.Prelude.{Some, slice_get}
-use Rattle.value_types.specs.declared.types.ColumnType.TheVariants.{Varchar}
+use Rattle.std.proofs.Common.{◌≡◌, ℕ, List, [], ◌∷◌, ◌++◌, ◌∙◌, ap}
 use Rattle.value_types.specs.Datum.{Datum, text}
 use Rattle.value_types.specs.Texts.{on_last}
 use Rattle.value_types.proofs.OnLast.{on_last-push}
@@ -17,18 +15,6 @@ pub record TextPushed (context : Context) (bytes : List ℕ) (from first at : �
   pub has : HasText context.dialect bytes from first at value
 
 module _ (old new : ChunkView) (value : List ℕ) (pushed : new ≡ record old { unfinished = old.unfinished ++ text value ∷ [] }) where
-  long : length new.unfinished ≡ length old.unfinished + 1
-  long = ap (λ x. length x.unfinished) pushed ∙ length-append old.unfinished (text value ∷ [])
-
-  pub some_under_way : 0 < length new.unfinished
-  some_under_way = omega (arith, long)
-
-  pub last_is_text : slice_get old.types (length old.unfinished) ≡ Some Varchar → slice_get new.types (length new.unfinished - 1) ≡ Some Varchar
-  last_is_text next =
-      let place : length new.unfinished - 1 ≡ length old.unfinished = omega (arith, long) in
-      let types : new.types ≡ old.types = ap (λ x. x.types) pushed in
-      (λ i. slice_get (types i) (place i)) ∙ next
-
   pub longer_by : (more : List ℕ) (longest : ChunkView) → longest ≡ record new { unfinished = on_last (longer more) new.unfinished } →
       longest ≡ record old { unfinished = old.unfinished ++ text (value ++ more) ∷ [] }
   longer_by more longest is =
