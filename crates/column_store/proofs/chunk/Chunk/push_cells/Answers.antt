@@ -1,9 +1,7 @@
-use Rattle.std.proofs.Common.{◌∙◌, ◌++◌, ◌∷◌, [], sym, ap, arith, length}
-use Rattle.std.proofs.lemmas.List.{take_all}
+use Rattle.std.proofs.Common.{◌∙◌, ◌++◌, ◌∷◌, [], arith}
 use Rattle.value_types.specs.Datum.{datum_of}
 use Rattle.column_store.proofs.Filled.{same_view}
-use Rattle.value_types.proofs.RowFits.{fit_lengths}
-use Rattle.column_store.proofs.NextCells.{fits_next, take_next}
+use Rattle.column_store.proofs.NextCells.{fits_next, row_ended, take_next}
 use Rattle.column_store.proofs.chunk.Chunk.push_cells.Goals as goal
 
 pub push_cell-requires : goal.push_cell-requires
@@ -20,4 +18,4 @@ loop-column-preserved c =
 pub finish_row-requires : goal.finish_row-requires
 finish_row-requires c =
     let so = c.loop-column.invariant in
-    (λ i. length (so i).unfinished) ∙ ap length (take_all c.loop-column.column c.args.cells.now (omega arith)) ∙ fit_lengths c.args.self.now.types c.args.cells.now c.requires.fits ∙ sym (λ i. length (so i).types)
+    row_ended c.args.self.now.types c.args.cells.now c.loop-column.column c.loop-column.self.types c.loop-column.self.unfinished (λ i. (so i).types) (λ i. (so i).unfinished) (omega arith) c.requires.fits

@@ -1,9 +1,8 @@
-use Rattle.std.proofs.Common.{◌≡◌, ◌∙◌, ◌-◌, ◌++◌, ◌∷◌, [], sym, ap, arith, length, refl}
+use Rattle.std.proofs.Common.{◌≡◌, ◌∙◌, ◌-◌, ◌++◌, ◌∷◌, [], sym, ap, arith, refl}
 use Rattle.std.proofs.lemmas.List.{take_all}
 use Rattle.value_types.specs.Datum.{datum_of}
 use Rattle.column_store.proofs.Filled.{filled_finish, same_view, seen_finish}
-use Rattle.value_types.proofs.RowFits.{fit_lengths}
-use Rattle.column_store.proofs.NextCells.{fits_next, take_next}
+use Rattle.column_store.proofs.NextCells.{fits_next, row_ended, take_next}
 use Rattle.column_store.proofs.chunk.Chunk.push_reserved.Goals as goal
 
 pub push_cell_reserved-requires-clause-fits : goal.push_cell_reserved-requires-clause-fits
@@ -21,8 +20,7 @@ pub invariant_of-self : goal.invariant_of-self
 invariant_of-self c =
     let s = c.self.inside in
     let so = c.loop-column.invariant in
-    let all : length c.loop-column.self.unfinished ≡ length c.loop-column.self.types =
-    (λ i. length (so i).unfinished) ∙ ap length (take_all c.loop-column.column c.args.cells.now (omega arith)) ∙ fit_lengths c.args.self.now.types c.args.cells.now c.requires.fits ∙ sym (λ i. length (so i).types) in
+    let all = row_ended c.args.self.now.types c.args.cells.now c.loop-column.column c.loop-column.self.types c.loop-column.self.unfinished (λ i. (so i).types) (λ i. (so i).unfinished) (omega arith) c.requires.fits in
     let spare : s.spare ≡ c.args.self.now.spare = (λ i. (c.self.view_is i).spare) ∙ (λ i. (so i).spare) in
     filled_finish c.self.invariant c.self.view_is all (s.spare - 1) refl (omega (arith, c.self.invariant.countable, c.requires.room))
 
@@ -31,8 +29,7 @@ returns c =
     let s = c.self.inside in
     let so = c.loop-column.invariant in
     let old = c.args.self.now in
-    let all : length c.loop-column.self.unfinished ≡ length c.loop-column.self.types =
-    (λ i. length (so i).unfinished) ∙ ap length (take_all c.loop-column.column c.args.cells.now (omega arith)) ∙ fit_lengths c.args.self.now.types c.args.cells.now c.requires.fits ∙ sym (λ i. length (so i).types) in
+    let all = row_ended c.args.self.now.types c.args.cells.now c.loop-column.column c.loop-column.self.types c.loop-column.self.unfinished (λ i. (so i).types) (λ i. (so i).unfinished) (omega arith) c.requires.fits in
     seen_finish c.self.invariant c.self.view_is all (s.spare - 1)
     ∙ same_view (λ i. (so i).types)
     ((λ i. (so i).rows ++ (so i).unfinished ∷ []) ∙ ap (λ row. old.rows ++ row ∷ []) (take_all c.loop-column.column c.args.cells.now (omega arith)))
