@@ -10,7 +10,6 @@ use Rattle.load_options.specs.declared.options.Options.{Options}
 use Rattle.csv_sniffer.specs.declared.found.Sniffed.{Sniffed}
 use Rattle.csv_sniffer.specs.Input.{place_under}
 use Rattle.csv_sniffer.proofs.DataPlaceLaws.{data_part_no_pair}
-use Rattle.range_guess.specs.Cut.{group_count}
 use Rattle.reject_book.specs.declared.reject.Reject.{Reject}
 use Rattle.reject_book.specs.declared.reject.Schema.{Schema}
 use Rattle.reject_book.specs.Judging.{judge_of}
@@ -20,7 +19,7 @@ use Rattle.reject_book.proofs.RaisedLines.{all_raised_twice}
 use Rattle.range_scan.specs.Part.{Part, join, is_bad}
 use Rattle.range_scan.proofs.JudgeLaws.{rows_are_judged_alike}
 use Rattle.load_crew.specs.GroupPlan.{group_read}
-use Rattle.load_crew.specs.Groups.{group_of, groups_read, groups_part}
+use Rattle.load_crew.specs.Groups.{shared_groups, group_of, groups_read, groups_part}
 use Rattle.load_crew.specs.Laws.{IsReadOn}
 use Rattle.load_crew.proofs.GroupsLaws.{all_groups, groups_join, next_group_joins}
 use Rattle.loader_reply.specs.Reading.{schema_of, file_reading, faults}
@@ -36,9 +35,9 @@ module _ (file_id : ℕ) (d : Marks) (schema : Schema) (input : List ℕ) (start
   bytes = drop start input
 
   -- all groups of the data
-  pub of_groups : AreOfPart vs lines (groups_read (judge_of d schema 0 file_id) raised d bytes start size false (group_count (length bytes) size))
+  pub of_groups : AreOfPart vs lines (groups_read (judge_of d schema 0 file_id) raised d bytes start size false (shared_groups (length bytes) size))
   of_groups = subst (AreOfPart vs lines)
-      (sym (groups_join (judge_of d schema 0 file_id) d bytes start size some raised (rows_are_judged_alike d schema 0 file_id) (group_count (length bytes) size)
+      (sym (groups_join (judge_of d schema 0 file_id) d bytes start size some raised (rows_are_judged_alike d schema 0 file_id) (shared_groups (length bytes) size)
       ∙ all_groups (judge_of d schema 0 file_id) d bytes start size some)) of
 
   pub first_fault_found : (k : ℕ) (before read : Part (List Datum) Reject) → before ≡ groups_part (judge_of d schema 0 file_id) d bytes start size k →

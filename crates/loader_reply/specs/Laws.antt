@@ -11,10 +11,9 @@ use Rattle.reject_book.specs.declared.reject.Schema.{Schema}
 use Rattle.reject_book.specs.Judging.{judge_of}
 use Rattle.reject_book.specs.Kept.{book_of, raised}
 use Rattle.reject_book.specs.Verdict.{Verdict}
-use Rattle.range_guess.specs.Cut.{group_count}
 use Rattle.range_scan.specs.Part.{Part, part_of, join, is_bad}
 use Rattle.load_crew.specs.GroupPlan.{group_read}
-use Rattle.load_crew.specs.Groups.{group_of, groups_read, groups_part}
+use Rattle.load_crew.specs.Groups.{shared_groups, group_of, groups_read, groups_part}
 use Rattle.csv_source.specs.Line.{line_of}
 use Rattle.csv_source.specs.Shown.{shown}
 use Rattle.report_text.specs.Lines.{error_line}
@@ -74,7 +73,7 @@ abbrev pub ReadingIsOfGroups : Type 0
 ReadingIsOfGroups = (o : Options) (s : Sniffed) (file_id : ℕ) (input : List ℕ) → 0 < o.range_size →
     let start = place_under o s input in let bytes = drop start input in
     AreOfPart (file_reading o s file_id input) (line_ends None (take start input))
-    (groups_read (judge_of s.dialect (schema_of o s) 0 file_id) raised s.dialect bytes start o.range_size false (group_count (length bytes) o.range_size))
+    (groups_read (judge_of s.dialect (schema_of o s) 0 file_id) raised s.dialect bytes start o.range_size false (shared_groups (length bytes) o.range_size))
 
 -- where a group that is read with a stop has a fault, the first fault of it and the groups before it is the first fault of the reading
 abbrev pub StopFindsFirstFault : Type 0

@@ -4,7 +4,6 @@ use Rattle.std.specs.Prelude.{Some, option_map, slice_get}
 use Rattle.csv_source.specs.Moves.{MovesFront}
 use Rattle.quote_automaton.specs.declared.state.State.{State}
 use Rattle.quote_automaton.specs.declared.state.State.TheVariants.{RowStart}
-use Rattle.range_guess.specs.Cut.{group_count}
 use Rattle.reject_book.specs.declared.book.Keep.TheVariants.{First}
 use Rattle.reject_book.specs.declared.reject.Reject.{Reject}
 use Rattle.reject_book.specs.BookView.{BookView}
@@ -15,7 +14,7 @@ use Rattle.range_scan.specs.Joined.{IsBegun, IsAppended}
 use Rattle.range_guess.specs.declared.stretch.Stretch.{Stretch as Group}
 use Rattle.load_crew.specs.declared.group_read.GroupRead.{GroupRead}
 use Rattle.load_crew.specs.GroupRead.{IsGroupRead}
-use Rattle.load_crew.specs.Groups.{group_of}
+use Rattle.load_crew.specs.Groups.{shared_groups, group_of}
 use Rattle.window_load.specs.declared.course.Course.{Course}
 use Rattle.window_load.specs.declared.ranges_read.RangesRead.TheVariants as reads
 use Rattle.window_load.specs.Groups.{group_in, group_reach}
@@ -28,7 +27,7 @@ use Rattle.window_load.proofs.SoFar as so_far
 
 -- the first k groups are read, which are groups of the data
 abbrev pub AreGroupsRead : Context → Course → ℕ → Joined → List ℕ → Type 0
-AreGroupsRead context course k joined text = IsReadUpTo context text course k joined × (k ≤ group_count (length text) course.range_size)
+AreGroupsRead context course k joined text = IsReadUpTo context text course k joined × (k ≤ shared_groups (length text) course.range_size)
 
 -- and the window stands at the next one
 abbrev pub IsUpToGroup : Context → Course → Option (List ℕ) → Option (List ℕ) → WindowView → WindowView → ℕ → ℕ → Joined → Type 0
@@ -62,7 +61,7 @@ module _ (context : Context) (course : Course) (some : 0 < course.range_size) (l
       r.reached,
       r.quiet,
       λ more may.
-          let last : k ≡ group_count (length ((old.kept ++ r.came) ++ more)) course.range_size =
+          let last : k ≡ shared_groups (length ((old.kept ++ r.came) ++ more)) course.range_size =
           all_groups_read course.start course.range_size k at (old.kept ++ r.came) w r.stands some context.schema.max_line_size filled.0 over more may (r.read more may).1 in
           whole context ((old.kept ++ r.came) ++ more) course some joined
           (subst (λ n. IsReadUpTo context ((old.kept ++ r.came) ++ more) course n joined) last (r.read more may).0),

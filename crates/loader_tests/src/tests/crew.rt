@@ -100,7 +100,7 @@ fn is_loaded<R: Threads + Wait + Sync>(
         files: &[("f.csv", input)],
         outside: ROOMY,
         cut: Some(Cut {
-            range_size: 1_024 + 5 * (turn % 7),
+            range_size: 4_096 + 5 * (turn % 7),
             threads: 8,
         }),
     };

@@ -92,12 +92,12 @@ const LOAD: &[&str] = &[
     "max_line_size=1000",
 ];
 
-/// Whether only the first group is scanned, and begins so before the last read. A group has 64 ranges, so 1 MiB: the next
+/// Whether only the first group is scanned, and begins so before the last read. A group has 16 ranges, so 256 KiB: the next
 /// group is read beside the scan of the first, and the groups behind that one only when the scan has ended.
 fn one_group_is_scanned<R: Threads + Wait + Sync>(rt: &R, alloc: Global) -> bool {
     let counting = Counting::new();
     ends_with_first(rt, alloc, &counting, LOAD)
-        && counting.scans() <= 64
+        && counting.scans() <= 16
         && counting.before_last_read() > 0
 }
 
