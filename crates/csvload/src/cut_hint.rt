@@ -1,12 +1,11 @@
 // Hints at rows that may be cut otherwise: at a byte by which no candidate cuts, and at lines above the rows.
-use call_advice::{gives, is_given};
 use crate::hints::{MARK, first_line, tells_delimiter};
+use crate::message::Run;
+use crate::text_columns::tells_one_text;
+use call_advice::{SeenFile, gives, is_given};
+use csv_sniffer::Noticed;
 use person_line::Line;
 use person_line::Part::{Number, Text};
-use crate::message::Run;
-use call_advice::SeenFile;
-use crate::text_columns::tells_one_text;
-use csv_sniffer::Noticed;
 
 /// Bytes that may cut rows and aren't tried, in the order in which they are looked for.
 const SEPARATORS: [u8; 4] = [b'~', b':', b'^', b' '];
@@ -120,7 +119,11 @@ pub fn push_cut(said: &mut Line, run: Run<'_>, noticed: Noticed, faults: u64) {
     {
         push_separator(said, file);
     }
-    if noticed.lines_above > 0 && faults == 0 && is_header_open(run.words) && !is_told(run, noticed) {
+    if noticed.lines_above > 0
+        && faults == 0
+        && is_header_open(run.words)
+        && !is_told(run, noticed)
+    {
         push_other_header(said, noticed.lines_above);
     }
 }

@@ -1,12 +1,11 @@
 // A hint at columns of numbers that lose leading zeros.
 use crate::cast_help::{can_be_given, is_found};
-use call_advice::{command_word, gives, is_given, word_giving};
-use person_line::Line;
-use person_line::Part::Text;
 use crate::message::Run;
-use person_line::can_be_copied;
 use crate::text_columns::name_told;
+use call_advice::{command_word, gives, is_given, word_giving};
 use csv_sniffer::ZERO_COLUMNS;
+use person_line::Part::Text;
+use person_line::{Line, can_be_copied};
 
 /// How many columns are named.
 const MOST_NAMED: usize = 5;
