@@ -1,5 +1,5 @@
 -- Columns that lose leading zeros, with one row more.
-use Rattle.std.proofs.Common.{◌≡◌, ℕ, ◌+◌, ◌*◌, ◌^◌, ◌<◌, ◌≤◌, Bool, true, false, ◌||◌, cond, List, [], ◌∷◌, map, length, drop, take, get_or, replicate, min, Some, refl, sym, ◌∙◌, ap, arith, pow_mono}
+use Rattle.std.proofs.Common.{◌≡◌, ℕ, ◌+◌, ◌*◌, ◌^◌, ◌<◌, ◌≤◌, Bool, true, false, ◌||◌, cond, List, [], ◌∷◌, map, length, drop, get_or, replicate, min, Some, sym, ◌∙◌, ap, arith, pow_mono}
 use Rattle.std.specs.Prelude.{filter, slice_get}
 use Rattle.std.specs.Int.{from_bool}
 use Rattle.std.specs.List.{list_any, range_with_len}

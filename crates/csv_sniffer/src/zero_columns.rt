@@ -1,6 +1,5 @@
 //! Columns of numbers that would lose leading zeros, by a look at the first rows.
 ghost use Rattle.std.specs.Prelude.{◌≡◌, ℕ, ◌+◌, ◌<◌, ◌≤◌, ◌||◌, Bool, true, drop, take, IfOk, length, OnOk, slice_index_or};
-ghost use Rattle.std.specs.Option.{option_map_or};
 ghost use lib.Lanes.{mask_l};
 ghost use Rattle.row_fields.specs.Split.{fields_in};
 ghost use Rattle.value_types.specs.OfType.{same_type};

@@ -1,4 +1,4 @@
-use Rattle.std.proofs.Common.{◌≡◌, ◌<◌, ◌||◌, ℕ, Bool, true, false, get_or, length, sym, ap, ◌∙◌, arith}
+use Rattle.std.proofs.Common.{◌≡◌, ◌<◌, ◌||◌, ℕ, Bool, false, get_or, length, sym, ap, ◌∙◌, arith}
 use Rattle.row_fields.specs.Split.{fields_in}
 use Rattle.csv_sniffer.specs.ZeroColumns.{has_zero_at}
 use Rattle.csv_sniffer.proofs.ListWalks.{same_from, stepped_below}

@@ -1,4 +1,4 @@
-use Rattle.std.proofs.Common.{◌+◌, ◌||◌, ◌∙◌, ℕ, List, drop, take, get_or, length, sym, ap}
+use Rattle.std.proofs.Common.{◌+◌, ◌||◌, ◌∙◌, ℕ, List, drop, take, get_or, sym, ap}
 use Rattle.load_options.proofs.ListSteps.{drop-at}
 use Rattle.csv_sniffer.specs.Rows.{row_texts}
 use Rattle.csv_sniffer.specs.ZeroColumns.{has_zero_at, zero_flags}

@@ -1,4 +1,4 @@
-use Rattle.std.proofs.Common.{◌≡◌, rules, ℕ, List, false, [], drop, take, length, replicate, sym, ◌∙◌, ap, arith}
+use Rattle.std.proofs.Common.{◌≡◌, rules, ℕ, List, false, [], drop, take, replicate, sym, ◌∙◌, ap, arith}
 use Rattle.std.proofs.lemmas.List.{drop_all, length-map, length-take}
 use Rattle.dialect_rank.specs.Sampled.{span_bytes}
 use Rattle.csv_sniffer.specs.Rows.{row_texts}
