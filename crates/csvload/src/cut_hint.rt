@@ -22,7 +22,7 @@ fn count_in(line: &[u8], separator: u8) -> Option<usize> {
 fn before_last_end(text: &[u8]) -> &[u8] {
     for (place, byte) in text.iter().enumerate().rev() {
         if *byte == b'\n' {
-            return &text[..place];
+            return text.get(..place).unwrap_or(text);
         }
     }
     &[]
