@@ -237,7 +237,7 @@ def check_own_texts() -> None:
         status, text, said = run(["help", part], F)
         same((status, said, text[: len(begins)]), (0, "", begins), part)
         assert f"csvload help {part} ".encode() in help_text[1], help_text
-        check_fits(text, 60)
+        check_fits(text, 70)
         same(run(["help", part, "--help"], F), (status, text, said), part)
     for words in [["--version"], ["-V"], ["version"], ["version", "load", "x"]]:
         same(run(words, F), (0, b"csvload 0.2.0\n", ""), words)
