@@ -3,7 +3,7 @@
 import os
 from typing import TYPE_CHECKING, Union
 
-from .reading import read
+from .reading import Table, read
 from .running import Option
 
 if TYPE_CHECKING:
@@ -22,12 +22,17 @@ def frame(file: Union[str, os.PathLike[str]], **options: Option) -> "pandas.Data
     >>> csvload.frame("orders.csv").dtypes["quantity"]
     Int64Dtype()
     """
+    table = read(file, **options)
+    made = frame_of(table)
+    made.attrs["rejects"] = table.rejects
+    return made
+
+
+def frame_of(table: Table) -> "pandas.DataFrame":
+    """The cells of a table as a DataFrame."""
     import pandas
 
-    table = read(file, **options)
     series = {
         name: pandas.Series(cells, dtype=KINDS.get(table.types[name], object), name=name) for name, cells in table.columns.items()
     }
-    made = pandas.DataFrame(series)
-    made.attrs["rejects"] = table.rejects
-    return made
+    return pandas.DataFrame(series)

@@ -3,15 +3,16 @@
 import os
 import sqlite3
 import tempfile
-from collections.abc import Callable
-from contextlib import closing
+from collections.abc import Callable, Iterator, Sequence
+from contextlib import closing, contextmanager
 from dataclasses import dataclass
 from datetime import date, datetime, time
-from typing import Any, Union
+from typing import Any, Optional, Union
 
-from .running import Option, write_database
+from .running import Option, name_of, run, words_of
 
 Cell = Union[None, bool, int, date, time, datetime, str]
+Reject = dict[str, Union[int, str, bytes]]
 
 # What the database keeps otherwise than Python does. Texts and numbers come as they are.
 CASTS: dict[str, Callable[[Any], Cell]] = {
@@ -33,7 +34,7 @@ class Table:
 
     types: dict[str, str]
     columns: dict[str, list[Cell]]
-    rejects: list[dict[str, Union[int, str, bytes]]]
+    rejects: list[Reject]
 
 
 def read(file: Union[str, os.PathLike[str]], **options: Option) -> Table:
@@ -51,11 +52,20 @@ def read(file: Union[str, os.PathLike[str]], **options: Option) -> Table:
     >>> [(reject["line"], reject["error_type"], reject["csv_line"]) for reject in scores.rejects]
     [(4, 'CAST', 'Bo,three,2024-05-31')]
     """
-    with tempfile.TemporaryDirectory() as folder:
-        place = os.path.join(folder, "table.db")
-        write_database(file, options, place)
+    with database_of(["convert", name_of(file), *words_of(options)]) as database:
+        return table_of(database)
+
+
+@contextmanager
+def database_of(words: Sequence[str], given: Optional[bytes] = None, folder: Optional[str] = None) -> Iterator[sqlite3.Connection]:
+    """The database that the program writes by these words, while it is read; its file lies in the folder, or where temporary ones
+    do. What is given is standard input."""
+    with tempfile.TemporaryDirectory(dir=folder) as made:
+        place = os.path.join(made, "table.db")
+        with open(place, "wb") as into:
+            run([*words, "to=sqlite"], given, into)
         with closing(sqlite3.connect(place)) as database:
-            return table_of(database)
+            yield database
 
 
 def table_of(database: sqlite3.Connection) -> Table:
@@ -64,9 +74,14 @@ def table_of(database: sqlite3.Connection) -> Table:
     # They come by the number of the row, which a column can hide: it can't be asked for by its name.
     cells = [list(column) for column in zip(*database.execute("SELECT * FROM data"))] or [[] for _ in types]
     columns = {name: cast_cells(kind, column) for (name, kind), column in zip(types.items(), cells)}
+    return Table(types, columns, rejects_of(database))
+
+
+def rejects_of(database: sqlite3.Connection) -> list[Reject]:
+    """The stored rejects of a database of the program."""
     errors = database.execute("SELECT * FROM reject_errors")
     names = [part[0] for part in errors.description]
-    return Table(types, columns, [dict(zip(names, error)) for error in errors])
+    return [dict(zip(names, error)) for error in errors]
 
 
 def cast_cells(kind: str, cells: list[Any]) -> list[Cell]:

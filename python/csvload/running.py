@@ -1,9 +1,11 @@
 """Calls of the program: options as its words, and its refusals as an exception."""
 
+import errno
 import os
+import platform
 import subprocess
 from collections.abc import Mapping, Sequence
-from typing import Union
+from typing import BinaryIO, Optional, Union
 
 Option = Union[bool, int, str, Sequence[str], Mapping[str, str]]
 
@@ -64,14 +66,23 @@ def words_of(options: Mapping[str, Option]) -> list[str]:
     return [f"{name}={value_of(name, value)}" for name, value in options.items()]
 
 
-def write_database(file: Union[str, os.PathLike[str]], options: Mapping[str, Option], place: str) -> None:
-    """Has the program write its SQLite database of a file at a place; else raises Refused."""
+def name_of(file: Union[str, os.PathLike[str]]) -> str:
+    """A file's name as a word: else it could be an option's. `-` alone is standard input."""
     name = os.fspath(file)
-    # Else it could be an option's name; - alone is standard input.
-    if name.startswith("-") and name != "-":
-        name = f"./{name}"
-    command = [os.environ.get("CSVLOAD", "csvload"), "convert", name, "to=sqlite", *words_of(options)]
-    with open(place, "wb") as database:
-        run = subprocess.run(command, stdout=database, stderr=subprocess.PIPE)
-    if run.returncode:
-        raise Refused(run.returncode, run.stderr.decode("utf-8", "replace").strip())
+    return f"./{name}" if name.startswith("-") and name != "-" else name
+
+
+def run(words: Sequence[str], given: Optional[bytes] = None, into: Union[int, BinaryIO] = subprocess.PIPE) -> bytes:
+    """Calls the program: what it wrote, unless that goes into a file. What is given is its standard input, else the caller's.
+
+    Where the status isn't 0 that raises Refused, and where there is no program FileNotFoundError, which names the machine.
+    """
+    program = os.environ.get("CSVLOAD", "csvload")
+    try:
+        done = subprocess.run([program, *words], input=given, stdout=into, stderr=subprocess.PIPE)
+    except FileNotFoundError:
+        lack = f"there is no such program on {platform.node()}, neither on PATH nor where CSVLOAD says"
+        raise FileNotFoundError(errno.ENOENT, lack, program) from None
+    if done.returncode:
+        raise Refused(done.returncode, done.stderr.decode("utf-8", "replace").strip())
+    return done.stdout or b""
