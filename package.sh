@@ -119,7 +119,7 @@ Architecture: amd64
 Maintainer: $(git log -1 --format='%an <%ae>')
 Installed-Size: $size
 Depends: libc6 (>= ${libc#GLIBC_})
-Suggests: sqlite3, postgresql-client, parallel, python3, python3-pandas
+Suggests: sqlite3, postgresql-client, parallel, python3, python3-pandas, python3-distributed
 Section: utils
 Priority: optional
 Description: loads CSV into typed columns, and tells which rows it refused

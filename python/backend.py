@@ -15,6 +15,8 @@ Requires-Python: {requires-python}
 License: MIT
 Provides-Extra: frame
 Requires-Dist: {frame}; extra == "frame"
+Provides-Extra: dask
+Requires-Dist: {dask}; extra == "dask"
 """
 WHEEL = """Wheel-Version: 1.0
 Generator: backend.py
