@@ -208,8 +208,8 @@ def load_tests(loader: unittest.TestLoader, tests: unittest.TestSuite, _: object
     text = (TOP / "examples" / "README.md").read_text()
     shown.append(doctest.DocTestParser().get_doctest(text, {}, "README.md", "examples/README.md", 0))
     for test in shown:
-        # A frame is made where pandas is.
-        test.examples = [example for example in test.examples if HAS_PANDAS or "frame(" not in example.source]
+        # A frame is made where pandas is; what Dask takes is tried by cluster.py.
+        test.examples = [it for it in test.examples if "dask" not in it.source and (HAS_PANDAS or "frame(" not in it.source)]
     tests.addTests(doctest.DocTestCase(test, setUp=stand_at_examples) for test in shown if test.examples)
     return tests
 

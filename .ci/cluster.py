@@ -1,0 +1,277 @@
+#!/usr/bin/env python3
+"""Reads many files by csvload.dask through a scheduler and two workers, processes on the loopback: each cell and each reject as
+`batch` has them, the refusals, and a worker that is killed. CSVLOAD names the program. Where Dask isn't there that is said, and
+nothing of it is tried.
+"""
+
+import contextlib
+import doctest
+import os
+import pathlib
+import subprocess
+import sys
+import tempfile
+import unittest
+from collections.abc import Iterator
+from datetime import date, datetime, time
+
+sys.dont_write_bytecode = True
+
+import hard_rows  # noqa: E402 (before it nothing may be written there)
+from sqlite import Report  # noqa: E402
+
+TOP = pathlib.Path(__file__).resolve().parent.parent
+PROGRAM = os.environ["CSVLOAD"]
+sys.path.insert(0, str(TOP / "python"))
+
+try:
+    import dask
+    import dask.dataframe
+    import distributed
+    import pandas
+except ImportError:
+    print(f"{sys.argv[0]}: passed over, no Dask")
+    sys.exit()
+
+import csvload  # noqa: E402 (it stands there)
+import csvload.dask  # noqa: E402
+
+LIMIT = 60
+CASTS = {"BOOLEAN": bool, "DATE": date.fromisoformat, "TIME": time.fromisoformat, "TIMESTAMP": datetime.fromisoformat}
+HARD = hard_rows.as_csv()
+HEADER, _, FIRST_ROWS = HARD.partition(b"\n")
+FAULTS = b'x,yes,,,,"a\nb"\n7,,,,,"good"\n8,no,2024-02-30,,,"bytes \xff"\n9\n'
+FILES = {"hard 1.csv": HARD, "hard 2.csv": HEADER + b"\n" + FAULTS + FIRST_ROWS, "hard 10.csv": HEADER + b"\n", "hard 11.csv": HARD}
+OPTIONS = {"delim": ",", "quote": '"', "escape": '"', "header": True, "allow_quoted_nulls": False, "types": hard_rows.TYPES}
+# Files that have to be taken for files with their own header: what is in them, and what is given besides.
+HEADERS: list[tuple[bytes, dict[str, csvload.Option]]] = [
+    (b'"a;b";"c ""d"";";e\n1;2;3\n', {}),
+    (b"a|b;c;a\n1;2;3\n", {"delim": ";", "quote": ""}),
+    (b"'it\\'s',b\\\\c,\\\n'1',2,3\n", {"quote": "'", "escape": "\\"}),
+    (b'a"b,"c,d",e\n1,2,3\n', {"quote": '"', "escape": ""}),
+    (b"\xef\xbb\xbfa\tA\ta\t\n1\t2\t3\t4\n", {}),
+    (b"\xef\xbb\xbf\xef\xbb\xbfa,b\n1,2\n", {"quote": ""}),
+    (b"a title\n\na\0b,b\n1,2\n", {"skip": 1}),
+    (b'"#a",b\n# no row\n1,2\n', {"comment": "#"}),
+    (b"a,b,c\n1,2\n", {"delim": ",", "types": ["BIGINT", "VARCHAR"]}),
+    (b"zip,n\n007,1\n", {"column_types": {"zip": "VARCHAR"}}),
+    (b"zip,n\n007,1\n", {"all_varchar": True}),
+    (b"zip,n\n007,1\n", {"names": ["code", "number"]}),
+    (b"1,2\n3,4\n", {"header": False}),
+    (b'"a\r\nb"\n1\n\n2\n', {}),
+]
+# A program that kills the worker that calls it, the first time that it is to read hard 11.csv.
+KILLER = """#!/bin/sh
+case $2 in
+*'hard 11.csv') if mkdir "$0.killed" 2>/dev/null; then kill -9 "$PPID"; exit 1; fi ;;
+esac
+exec {program} "$@"
+"""
+
+
+@contextlib.contextmanager
+def running(*words: str) -> Iterator[subprocess.Popen]:
+    """A process of Dask's own commands, ended at the end."""
+    environment = dict(os.environ, PYTHONPATH=str(TOP / "python"), PYTHONDONTWRITEBYTECODE="1")
+    silent = {"stdout": subprocess.DEVNULL, "stderr": subprocess.DEVNULL}
+    process = subprocess.Popen([sys.executable, "-m", *words], env=environment, **silent)
+    try:
+        yield process
+    finally:
+        process.terminate()
+        process.wait(LIMIT)
+
+
+def name_program(name: str) -> None:
+    """Which program a worker takes."""
+    os.environ["CSVLOAD"] = name
+
+
+def own(cell: object) -> object:
+    """A cell as Python's own value: those of numpy have an `item`."""
+    return None if cell is pandas.NA else cell.item() if hasattr(cell, "item") else cell
+
+
+class Trial(unittest.TestCase):
+    """A folder with the files, and a scheduler with two workers who see them."""
+
+    stack: contextlib.ExitStack
+    client: distributed.Client
+
+    @classmethod
+    def setUpClass(cls) -> None:
+        cls.stack = contextlib.ExitStack()
+        cls.addClassCleanup(cls.stack.close)
+        folder = cls.stack.enter_context(tempfile.TemporaryDirectory())
+        cls.addClassCleanup(os.chdir, os.getcwd())
+        os.chdir(folder)
+        for name, data in FILES.items():
+            pathlib.Path(name).write_bytes(data)
+        at = ["--scheduler-file", f"{folder}/scheduler.json"]
+        cls.stack.enter_context(running("distributed.cli.dask_scheduler", *at, "--host", "127.0.0.1", "--port", "0", "--no-dashboard"))
+        for number in "12":
+            own_folder = ["--local-directory", f"{folder}/{number}", "--no-nanny", "--no-dashboard", "--nthreads", "1"]
+            cls.stack.enter_context(running("distributed.cli.dask_worker", *at, "--host", "127.0.0.1", *own_folder))
+        cls.client = cls.stack.enter_context(distributed.Client(scheduler_file=at[1], timeout=LIMIT))
+        cls.client.wait_for_workers(2, timeout=LIMIT)
+
+    def write(self, name: str, data: bytes) -> str:
+        pathlib.Path(name).write_bytes(data)
+        return name
+
+    def refuses(self, frame: dask.dataframe.DataFrame, status: int, text: str) -> None:
+        """All is asked of the workers."""
+        with self.assertRaises(csvload.Refused) as caught:
+            self.client.compute(frame).result(LIMIT)
+        self.assertEqual((caught.exception.status, str(caught.exception).splitlines()[0]), (status, text))
+
+    def has_rows(self, frame: pandas.DataFrame, report: Report) -> None:
+        """Each cell is the one of the report, and of its very type."""
+        self.assertEqual(list(frame), [name for name, _ in report.columns])
+        got = list(zip(*([own(cell) for cell in frame[name]] for name in frame)))
+        kinds = [CASTS.get(kind, lambda cell: cell) for _, kind in report.columns]
+        wanted = [tuple(None if cell is None else cast(cell) for cast, cell in zip(kinds, row)) for row in report.rows]
+        self.assertEqual(got, wanted)
+        self.assertEqual(*([[type(cell) for cell in row] for row in rows] for rows in (got, wanted)))
+
+
+def batch(*files: str, **options: csvload.Option) -> Report:
+    """What the program's batch says of files, with the rejects."""
+    words = csvload.running.words_of({**options, "store_rejects": True})
+    return Report(subprocess.run([PROGRAM, "batch", ",".join(files), *words], check=True, capture_output=True, timeout=LIMIT).stdout)
+
+
+class Read(Trial):
+    def test_every_cell_and_every_reject_is_that_of_batch(self) -> None:
+        wanted = batch(*FILES, **OPTIONS)
+        self.assertEqual((len(wanted.rows), len(wanted.rejects["error"])), (3 * len(hard_rows.ROWS) + 1, 4))
+        lazy = csvload.dask.read("hard *.csv", ignore_errors=True, **OPTIONS)
+        frame = self.client.compute(lazy).result(LIMIT)
+        self.assertEqual((lazy.npartitions, dict(lazy.dtypes)), (len(FILES), dict(frame.dtypes)))
+        self.has_rows(frame, wanted)
+        counts = self.client.compute(lazy.map_partitions(len)).result(LIMIT)
+        self.assertEqual(list(counts), [18, 19, 0, 18])
+        faults = csvload.dask.rejects("hard *.csv", **OPTIONS)
+        self.assertEqual(*({name: str(kind) for name, kind in each.items()} for each in (faults.dtypes, csvload.dask.REJECTS)))
+        rejects = self.client.compute(faults).result(LIMIT)
+        self.assertEqual(list(rejects.itertuples(index=False, name=None)), wanted.rejects["error"])
+
+    def test_a_killed_worker_changes_nothing(self) -> None:
+        killer = pathlib.Path("killer").absolute()
+        killer.write_text(KILLER.format(program=PROGRAM))
+        killer.chmod(0o755)
+        with running("distributed.cli.dask_worker", "--scheduler-file", "scheduler.json", "--no-nanny", "--no-dashboard", "--nthreads", "1"):
+            self.client.wait_for_workers(3, timeout=LIMIT)
+            self.client.run(name_program, str(killer))
+            frame = self.client.compute(csvload.dask.read("hard *.csv", ignore_errors=True, threads=2, **OPTIONS)).result(LIMIT)
+            self.assertTrue(pathlib.Path("killer.killed").is_dir())
+            self.has_rows(frame, batch(*FILES, **OPTIONS))
+            self.client.run(name_program, PROGRAM)
+
+    def test_a_file_that_was_changed_is_read_anew(self) -> None:
+        file = self.write("changed.csv", b"n\n1\n")
+        before = csvload.dask.read(file).persist()
+        distributed.wait(before)
+        self.write(file, b"n\n12\n")
+        sums = [self.client.compute(frame.n.sum()).result(LIMIT) for frame in (before, csvload.dask.read(file), before)]
+        self.assertEqual(sums, [1, 12, 1])
+
+    def test_all_is_found_in_the_first_file(self) -> None:
+        first, later = self.write("typed.csv", b"zip;n\n00501;1\n"), self.write("texts.csv", b"zip;n\n00502;x\n00503;2\n")
+        with dask.config.set(scheduler="sync"):
+            self.has_rows(csvload.dask.read([first, later], ignore_errors=True).compute(), batch(first, later))
+            self.has_rows(csvload.dask.read([later, first]).compute(), batch(later, first))
+
+    def test_each_form_of_a_header_is_known_again(self) -> None:
+        for place, (data, options) in enumerate(HEADERS):
+            first, later = self.write(f"first{place}.csv", data), self.write(f"later{place}.csv", data)
+            # Under same_header a later file is told that has more names than there are columns, as the first one does.
+            same_header = data != b"a,b,c\n1,2\n"
+            with self.subTest(data, **options), dask.config.set(scheduler="sync"):
+                lazy = csvload.dask.read([first, later], same_header, **options)
+                one = csvload.frame(first, **options)
+                pandas.testing.assert_frame_equal(lazy.compute(), pandas.concat([one, one]))
+                self.assertEqual(dict(lazy.dtypes), dict(one.dtypes))
+
+
+class Refusals(Trial):
+    def test_the_first_fault_has_its_true_line(self) -> None:
+        name = f"{os.getcwd()}/hard 2.csv"
+        self.refuses(csvload.dask.read("hard *.csv", **OPTIONS), 3, f"csvload: {name}:2: column 1 'number': Could not convert string \"x\" to 'BIGINT'")
+
+    def test_another_header_is_told(self) -> None:
+        self.write("first.csv", b"id,v\n1,a\n")
+        whole = os.path.abspath
+        for name, data in {"other.csv": b"v,id\na,1\n", "more.csv": b"id,v,w\n1,a,b\n", "empty.csv": b""}.items():
+            line = f"csvload: '{whole(name)}' hasn't the header of '{whole('first.csv')}', whose columns are id, v"
+            files = ["first.csv", self.write(name, data)]
+            with self.subTest(name):
+                self.refuses(csvload.dask.read(files), 4, line)
+                self.refuses(csvload.dask.rejects(files), 4, line)
+                with dask.config.set(scheduler="sync"):
+                    frame = csvload.dask.read(files, same_header=False, ignore_errors=True).compute()
+                    self.has_rows(frame, batch(*files))
+                    rejects = csvload.dask.rejects(files, same_header=False).compute()
+                    self.assertEqual(list(rejects.itertuples(index=False, name=None)), batch(*files).rejects["error"])
+
+    def test_an_empty_first_file_has_one_column(self) -> None:
+        files = [self.write("none.csv", b""), self.write("some.csv", b"a\nb\n")]
+        with dask.config.set(scheduler="sync"):
+            self.has_rows(csvload.dask.read(files).compute(), batch(*files))
+            self.assertEqual(len(csvload.dask.read(files[0]).compute()), 0)
+
+    def test_an_absent_program_is_told_with_its_machine(self) -> None:
+        (one, _) = self.client.scheduler_info()["workers"]
+        self.client.run(name_program, "/nowhere/csvload", workers=[one])
+        frame = csvload.dask.read(["hard 1.csv"] * 8, **OPTIONS)
+        with self.assertRaisesRegex(FileNotFoundError, f"no such program on {os.uname().nodename}, .*'/nowhere/csvload'"):
+            self.client.compute(frame).result(LIMIT)
+        self.client.run(name_program, PROGRAM)
+
+    def test_an_absent_file_is_told_with_the_machine(self) -> None:
+        frame = csvload.dask.read([self.write("a.csv", b"n\n1\n"), self.write("gone.csv", b"n\n2\n")])
+        os.unlink("gone.csv")
+        self.refuses(frame, 2, f"csvload: '{os.path.abspath('gone.csv')}' isn't there on {os.uname().nodename}")
+
+    def test_what_can_be_told_at_once_is(self) -> None:
+        for files, options, status in ("absent*.csv", {}, 2), ("hard 1.csv", {"nonsense": 1}, 1), ("hard 1.csv", {"column_types": {"no": "DATE"}}, 4):
+            with self.subTest(files, **options), self.assertRaises(csvload.Refused) as caught:
+                csvload.dask.read(files, **options)
+            self.assertEqual(caught.exception.status, status)
+        for files, options, error in ([], {}, ValueError), (["a,b.csv"], {}, ValueError), ("hard 1.csv", {"to": "csv"}, TypeError):
+            with self.subTest(files, **options), self.assertRaises(error):
+                csvload.dask.read(files, **options)
+
+    def test_without_dask_the_others_work(self) -> None:
+        ask = "import sys; sys.modules['dask'] = None; import csvload; print(len(csvload.read('hard 1.csv').types)); import csvload.dask"
+        environment = dict(os.environ, PYTHONPATH=str(TOP / "python"), PYTHONDONTWRITEBYTECODE="1")
+        done = subprocess.run([sys.executable, "-c", ask], env=environment, capture_output=True, text=True, timeout=LIMIT)
+        self.assertEqual((done.returncode, done.stdout), (1, "6\n"))
+        self.assertIn("ImportError: csvload.dask takes Dask: pip install", done.stderr)
+
+
+def stand_at_examples(_: doctest.DocTest) -> None:
+    os.chdir(TOP / "examples")
+
+
+def load_tests(_: unittest.TestLoader, tests: unittest.TestSuite, __: object) -> unittest.TestSuite:
+    """The tests above, and what the module and examples/README.md show."""
+    shown = [test for test in doctest.DocTestFinder().find(csvload.dask) if test.examples]
+    text = (TOP / "examples" / "README.md").read_text()
+    shown.append(doctest.DocTestParser().get_doctest(text, {}, "README.md", "examples/README.md", 0))
+    tests.addTests(doctest.DocTestCase(test, setUp=stand_at_examples) for test in shown)
+    return tests
+
+
+def main() -> None:
+    result = unittest.TestResult()
+    unittest.defaultTestLoader.loadTestsFromModule(sys.modules[__name__]).run(result)
+    for _, text in result.errors + result.failures:
+        print(text)
+    if not result.wasSuccessful():
+        sys.exit(1)
+    print(f"{sys.argv[0]}: {result.testsRun} tests of many files by Dask {dask.__version__} and two workers, one killed in mid-task")
+
+
+if __name__ == "__main__":
+    main()
