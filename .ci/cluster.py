@@ -60,10 +60,15 @@ HEADERS: list[tuple[bytes, dict[str, csvload.Option]]] = [
     (b"1,2\n3,4\n", {"header": False}),
     (b'"a\r\nb"\n1\n\n2\n', {}),
 ]
-# A program that kills the worker that calls it, the first time that it is to read hard 11.csv.
+# A program that kills the worker that calls it, the first time that it is to read hard 11.csv, and tells where its text would go.
 KILLER = """#!/bin/sh
 case $2 in
-*'hard 11.csv') if mkdir "$0.killed" 2>/dev/null; then kill -9 "$PPID"; exit 1; fi ;;
+*'hard 11.csv') if mkdir "$0.killed" 2>/dev/null; then
+    into=$(readlink "/proc/$$/fd/1")
+    echo "$into" >"$0.killed/into"
+    kill -9 "$PPID"
+    exit 1
+fi ;;
 esac
 exec {program} "$@"
 """
@@ -97,6 +102,7 @@ class Trial(unittest.TestCase):
 
     stack: contextlib.ExitStack
     client: distributed.Client
+    worker: list[str]
 
     @classmethod
     def setUpClass(cls) -> None:
@@ -107,12 +113,12 @@ class Trial(unittest.TestCase):
         os.chdir(folder)
         for name, data in FILES.items():
             pathlib.Path(name).write_bytes(data)
-        at = ["--scheduler-file", f"{folder}/scheduler.json"]
-        cls.stack.enter_context(running("distributed.cli.dask_scheduler", *at, "--host", "127.0.0.1", "--port", "0", "--no-dashboard"))
-        for number in "12":
-            own_folder = ["--local-directory", f"{folder}/{number}", "--no-nanny", "--no-dashboard", "--nthreads", "1"]
-            cls.stack.enter_context(running("distributed.cli.dask_worker", *at, "--host", "127.0.0.1", *own_folder))
-        cls.client = cls.stack.enter_context(distributed.Client(scheduler_file=at[1], timeout=LIMIT))
+        at = ["--scheduler-file", "scheduler.json", "--host", "127.0.0.1", "--no-dashboard"]
+        cls.stack.enter_context(running("distributed.cli.dask_scheduler", *at, "--port", "0"))
+        cls.worker = ["distributed.cli.dask_worker", *at, "--no-nanny", "--nthreads", "1", "--local-directory", f"{folder}/workers"]
+        for _ in range(2):
+            cls.stack.enter_context(running(*cls.worker))
+        cls.client = cls.stack.enter_context(distributed.Client(scheduler_file="scheduler.json", timeout=LIMIT))
         cls.client.wait_for_workers(2, timeout=LIMIT)
 
     def write(self, name: str, data: bytes) -> str:
@@ -160,11 +166,16 @@ class Read(Trial):
         killer = pathlib.Path("killer").absolute()
         killer.write_text(KILLER.format(program=PROGRAM))
         killer.chmod(0o755)
-        with running("distributed.cli.dask_worker", "--scheduler-file", "scheduler.json", "--no-nanny", "--no-dashboard", "--nthreads", "1"):
+        with running(*self.worker):
             self.client.wait_for_workers(3, timeout=LIMIT)
             self.client.run(name_program, str(killer))
             frame = self.client.compute(csvload.dask.read("hard *.csv", ignore_errors=True, threads=2, **OPTIONS)).result(LIMIT)
-            self.assertTrue(pathlib.Path("killer.killed").is_dir())
+            into = pathlib.Path("killer.killed", "into").read_text().strip()
+            self.assertTrue(into.startswith(f"{os.getcwd()}/workers/"), into)
+            self.assertTrue(os.path.exists(into))
+            with running(*self.worker):
+                self.client.wait_for_workers(3, timeout=LIMIT)
+            self.assertFalse(os.path.exists(into))
             self.has_rows(frame, batch(*FILES, **OPTIONS))
             self.client.run(name_program, PROGRAM)
 
