@@ -250,7 +250,8 @@ class Refusals(Trial):
             with self.subTest(files, **options), self.assertRaises(csvload.Refused) as caught:
                 csvload.dask.read(files, **options)
             self.assertEqual(caught.exception.status, status)
-        for files, options, error in ([], {}, ValueError), (["a,b.csv"], {}, ValueError), ("hard 1.csv", {"to": "csv"}, TypeError):
+        wrong = ([], {}, ValueError), (["a,b.csv"], {}, ValueError), ("hard 1.csv", {"to": "csv"}, TypeError)
+        for files, options, error in (*wrong, (["hard 1.csv", "absent.csv"], {}, FileNotFoundError)):
             with self.subTest(files, **options), self.assertRaises(error):
                 csvload.dask.read(files, **options)
 

@@ -52,10 +52,10 @@ def read(paths: Paths, same_header: bool = True, **options: Option) -> dask.data
 
     The paths are a name, a pattern, or a list of names; a pattern's files come in the order of the numbers in their names. The
     options are those of `csvload.read`, and `max_errors` bounds the faults of each file. What keeps the first file from being
-    looked at raises Refused here, and all else where the result is computed: a faulty row, unless `ignore_errors` or
-    `store_rejects` is true, and a later file that doesn't begin with the first one's header, unless `same_header` is false. Of
-    several such files the one is told that fails first in time. Of a file that isn't there, and of an absent program, which
-    raises FileNotFoundError, the machine is told too.
+    looked at raises Refused here, and a later file that isn't here FileNotFoundError. All else raises Refused where the result
+    is computed: a faulty row, unless `ignore_errors` or `store_rejects` is true, and a later file that doesn't begin with the
+    first one's header, unless `same_header` is false. Of several such files the one is told that fails first in time. Of a file
+    that isn't there on a worker the machine is told too, and of an absent program, which raises FileNotFoundError.
     """
     return lazy("csvload", rows, paths, same_header, options)
 
