@@ -7,7 +7,7 @@ use Rattle.db_pages.proofs.Pages.{length-leaf_page}
 use Rattle.db_pages.specs.declared.child.Child.{Child}
 use Rattle.csv_source.specs.Lists.{is_empty}
 use Rattle.db_pages.specs.Laid.{next_place}
-use Rattle.db_pages.specs.Grown.{Filled, Grown, behind, closed, holds_at, moved, with_leaf}
+use Rattle.db_pages.specs.Grown.{Grown, behind, closed, holds_at, moved, with_leaf}
 
 same-test : (a b c d : ℕ) → c ≡ a + 4096 → d ≡ b + 4096 → (c == d) ≡ (a == b)
 same-test a b c d left right = grind (arith, nat_tests)
@@ -22,17 +22,8 @@ holds-cells place base pages leaves (cell ∷ cells) last fits =
     (length-append pages (leaf_page (cell ∷ cells)) ∙ ap (λ n. length pages + n) (length-leaf_page (cell ∷ cells) fits))
     (omega (arith, length-append leaves (leaf ∷ []))))
 
-pub holds-filled : (place : ℕ) (f : Filled) → 8 + 2 * length f.laid.cells + length (joined f.laid.cells) ≤ 4096 →
-    holds_at place (closed f) ≡ ((f.base == place) || (length f.laid.pages == 4096 * length f.laid.leaves))
-holds-filled place f fits = holds-cells place f.base f.laid.pages f.laid.leaves f.laid.cells f.laid.last fits
-
 -- where the pages end that are left once the leaf under way has ended
 module _ (base : ℕ) (pages : List ℕ) (leaves : List Child) (last : ℕ) where
-  pub ended-there : (cells : List (List ℕ)) → is_empty cells ≡ true →
-      next_place base pages ≡ next_place base (closed (record { base = base; laid = record { pages = pages; leaves = leaves; cells = cells; last = last } })).pages
-  ended-there [] e = refl
-  ended-there (cell ∷ cells) e = absurd (false≢true e)
-
   pub ends-behind : (cells : List (List ℕ)) → is_empty cells ≡ false → 8 + 2 * length cells + length (joined cells) ≤ 4096 →
       next_place base pages + 1 ≡ next_place base (closed (record { base = base; laid = record { pages = pages; leaves = leaves; cells = cells; last = last } })).pages
   ends-behind [] e fits = absurd (false≢true (sym e))
