@@ -8,7 +8,7 @@ use Rattle.sqlite_pages.specs.PageMap.{PageMap}
 use Rattle.sqlite_value.specs.declared.value.Value.TheVariants.{Int, Text}
 use Rattle.sqlite_value.specs.Order.{Row}
 use Rattle.sqlite_record.specs.Record.{decode}
-use Rattle.sqlite_btree.specs.Part.{Part, all_pages}
+use Rattle.sqlite_btree.specs.Part.{all_pages}
 use Rattle.sqlite_btree.specs.Chain.{Entry}
 use Rattle.sqlite_btree.specs.Stored.{rowid_of}
 use Rattle.db_records.specs.Record.{IsWritable, record_bytes}
@@ -87,9 +87,6 @@ list-storable table root small =
     }
 
 module _ (file : List ℕ) (short : length file < 2 ^ 50) where
-  part : Part
-  part = all_pages (file_pages file)
-
   -- tables whose trees stand in the file: the rows under each root, and the list of them
   record AreHeld (base : ℕ) (tables : List Tabled) : Type 0 where
     held : AreUnder file tables (roots_of base tables)

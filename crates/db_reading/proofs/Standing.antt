@@ -71,6 +71,3 @@ module _ (part : Part) where
 
   pub stand-one : (place : ℕ) (page ys : List ℕ) → length page ≡ 4096 → Stand part place (page ++ ys) → part (number_of place) ≡ page
   stand-one = each-first IsThere
-
-  pub stand-page : (place : ℕ) (page : List ℕ) → length page ≡ 4096 → Stand part place page → part (number_of place) ≡ page
-  stand-page = each-page IsThere
