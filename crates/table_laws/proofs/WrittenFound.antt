@@ -55,12 +55,6 @@ pub record IsHeaded (s : Sniffed) (d : Marks) (ns : List (List ℕ)) (tys : List
   pub data_start : s.data_start ≡ start
 
 module _ (o : Options) (tys : List ColumnType) (r : ReadsWritten o tys) (some : 1 ≤ length tys) (d : Marks) (sample : List ℕ) (whole : Bool) (spans : List Span) (n : ℕ) (first : FirstRow sample whole spans n) where
-  abbrev row : List ℕ
-  row = span_bytes sample (0, n)
-
-  abbrev others : List (List ℕ)
-  others = map (span_bytes sample) first.more
-
   columns_are : (mode : ℕ) → column_count o mode ≡ length tys
   columns_are mode =
       (λ i. cond (not (is_empty (r.names i))) (length (r.names i)) (cond (not (is_empty (r.types i))) (length (r.types i)) (max mode 1)))
