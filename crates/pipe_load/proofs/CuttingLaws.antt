@@ -42,9 +42,6 @@ module _ (s reach : ℕ) (some : 0 < s) where
   at_least (suc k) p = omega arith
   at_least zero p = absurd (let none : ⊥ = omega (arith, p) in none)
 
-  below : (k n : ℕ) → k < n → k * s + s ≤ n * s
-  below k n lt = let more : k + 1 ≤ n = omega (arith, lt) in omega (arith, mul-le-mul_right s more, one_more k)
-
   pub place_ends : (k : ℕ) → place_start k + place_len k ≡ (k + 1) * s + reach
   place_ends zero = omega arith
   place_ends (suc k) = let least = at_least (suc k) (omega arith) in omega (arith, one_more (suc k), least, some)

@@ -122,9 +122,6 @@ module _ (context : Context) (l : Layout) (layout : IsLayout l) (text : List ℕ
   fits : n * z + z ≤ s
   fits = let b = before in next_fits n r z (omega (arith, b))
 
-  from_is : span.from ≡ min size lead + n * z
-  from_is = refl
-
   to_is : span.to ≡ min size lead + min (n * z + z) (min s (size - min size lead))
   to_is = let e : (n + 1) * z ≡ n * z + z = omega arith in let c = covered in omega (arith, e, c)
 
