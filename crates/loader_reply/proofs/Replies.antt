@@ -7,7 +7,6 @@ use Rattle.std.specs.List.{filter_map}
 use Rattle.csv_source.specs.Causes.{Rose}
 use Rattle.load_options.specs.declared.options.Command.{Command}
 use Rattle.load_options.specs.declared.options.Command.TheVariants.{Load as load_command, Sniff, Summary, Convert, Rejects, Batch, Make}
-use Rattle.load_options.specs.Commands.{is_make}
 use Rattle.load_options.specs.Formats.{is_sqlite}
 use Rattle.load_options.specs.declared.options.Options.{Options}
 use Rattle.load_options.specs.declared.options.Request.{Request}
@@ -168,23 +167,6 @@ module _ (words : List (List ℕ)) (taps : List Seen) (held : Told) (left : Opti
       (none_told 0 (words_reply (Err fault) words taps) held left before after r (subst (λ (q : Reply). IsAnswer q.status) (sym is) (inr (inl refl))) is)
 
 -- ---- what a command asks for
-
--- whether no file is read for it
-abbrev pub is_made : Asked → Bool
-is_made asks.Made = true
-is_made asks.Sniffed = false
-is_made (asks.Loaded answer several) = false
-
-pub made_alone : (o : Options) (command : Command) (asked : Asked) → asked ≡ asked_by o command → is_make command ≡ is_made asked
-made_alone o command asked is = by_command command ∙ ap is_made (sym is) where
-  by_command : (c : Command) → is_make c ≡ is_made (asked_by o c)
-  by_command load_command = refl
-  by_command Sniff = refl
-  by_command Summary = refl
-  by_command Convert = refl
-  by_command Rejects = refl
-  by_command Batch = refl
-  by_command Make = refl
 
 -- an answer of one file alone is asked for one
 abbrev IsOfOne : Asked → Type 0

@@ -1,5 +1,5 @@
 -- Rows that are counted up to a place, and on.
-use Rattle.std.proofs.Common.{◌≡◌, ℕ, ◌+◌, ◌<◌, ◌≤◌, Bool, true, false, cond, List, drop, length, get_or, refl, sym, ◌∙◌, ap, subst, arith, zero, suc, not, ◌&&◌, ◌||◌, zero-add, ◌-◌}
+use Rattle.std.proofs.Common.{◌≡◌, ℕ, ◌+◌, ◌<◌, ◌≤◌, false, cond, List, drop, length, get_or, refl, sym, ◌∙◌, ap, arith, zero, suc, not, ◌&&◌, ◌||◌, zero-add, ◌-◌}
 use Rattle.std.specs.Prelude.{◌==◌}
 use Rattle.std.proofs.lemmas.List.{drop_more}
 use Rattle.std.proofs.lemmas.Simd.{length-chunk}
@@ -7,7 +7,7 @@ use lib.Lanes.{chunk}
 use Rattle.byte_classes.specs.Class.{class_of, is_line_end}
 use Rattle.byte_classes.specs.Dialect.{Marks}
 use Rattle.quote_automaton.specs.declared.state.State.{State}
-use Rattle.quote_automaton.specs.Automaton.{state_after, step}
+use Rattle.quote_automaton.specs.Automaton.{state_after}
 use Rattle.quote_automaton.specs.Runs.{IsQuiet}
 use Rattle.quote_automaton.proofs.Running.{state_along}
 use Rattle.part_cuts.specs.declared.cut_rule.CutRule.{CutRule}
@@ -19,9 +19,6 @@ use Rattle.part_cuts.specs.PlainRows.{begun_behind, is_marked}
 use Rattle.part_cuts.proofs.PlainBits.{begun_behind-le}
 use Rattle.part_cuts.proofs.PlainRuns.{rows_of_run, state_behind, state_of_run}
 
-pub goes_nowhere : (rule : CutRule) (bytes : List ℕ) (old : Counted) → old.at ≤ length bytes → GoesOn rule bytes old old
-goes_nowhere rule bytes old room = record { low = omega arith; high = room; few = omega arith; after = refl; rows = refl }
-
 pub goes_further : (rule : CutRule) (bytes : List ℕ) (a b c : Counted) → GoesOn rule bytes a b → GoesOn rule bytes b c → GoesOn rule bytes a c
 goes_further rule bytes a b c ab bc = record {
   low = omega (arith, ab.low, bc.low);
@@ -30,29 +27,6 @@ goes_further rule bytes a b c ab bc = record {
   after = bc.after ∙ ab.after;
   rows = bc.rows ∙ ab.rows;
 }
-
--- over a byte
-pub goes_on_byte : (rule : CutRule) (bytes : List ℕ) (old : Counted) (s : State) (more : ℕ) → old.at < length bytes → s ≡ step rule.dialect old.state (get_or bytes old.at 0) →
-    more ≡ cond (counts_row rule.columns old.state (class_of rule.dialect (get_or bytes old.at 0))) 1 0 → GoesOn rule bytes old (record { at = old.at + 1; state = s; rows = old.rows + more })
-goes_on_byte rule bytes old s more below is_state is_more =
-    let d = rule.dialect in
-    let b : ℕ = get_or bytes old.at 0 in
-    let rest : List ℕ = drop (old.at + 1) bytes in
-    let left = drop_more bytes old.at 0 below in
-    let one : more ≤ 1 = subst (λ n. n ≤ 1) (sym is_more) (at_most (counts_row rule.columns old.state (class_of d b))) in
-    let all : rows_begun d rule.columns old.state (drop old.at bytes) ≡ more + rows_begun d rule.columns s rest =
-    ap (rows_begun d rule.columns old.state) left ∙ (λ i. sym is_more i + rows_begun d rule.columns (sym is_state i) rest) in
-    record {
-      low = omega arith;
-      high = omega (arith, below);
-      few = omega (arith, one);
-      after = ap (λ u. state_after d u rest) is_state ∙ sym (ap (state_after d old.state) left);
-      rows = omega (arith, all);
-    }
-  where
-    at_most : (t : Bool) → cond t 1 0 ≤ 1
-    at_most true = omega arith
-    at_most false = omega arith
 
 -- over a block without a quote and without a comment byte
 pub goes_on_block : (rule : CutRule) (bytes : List ℕ) (old : Counted) (last : ℕ) (s : State) (more : ℕ) → old.at ≡ last + 1 → last + 65 ≤ length bytes → (rule.columns == 1) ≡ false →

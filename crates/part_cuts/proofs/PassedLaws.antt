@@ -12,14 +12,6 @@ use Rattle.part_cuts.specs.NoCut.{NoCut}
 use Rattle.part_cuts.specs.Passed.{passed, rows_begun}
 use Rattle.part_cuts.specs.Reading.{Reading, begins_part, begun, behind, reading}
 
--- a list has at most as many rows as bytes
-pub rows_begun-le : (d : Marks) (columns : ℕ) (s : State) (bytes : List ℕ) → rows_begun d columns s bytes ≤ length bytes
-rows_begun-le d columns s [] = omega arith
-rows_begun-le d columns s (b ∷ bytes) = by_test (counts_row columns s (class_of d b)) (rows_begun-le d columns (step d s b) bytes) where
-  by_test : (t : Bool) → rows_begun d columns (step d s b) bytes ≤ length bytes → cond t 1 0 + rows_begun d columns (step d s b) bytes ≤ suc (length bytes)
-  by_test true le = omega (arith, le)
-  by_test false le = omega (arith, le)
-
 -- no bytes
 pub passed-nil : (r : Reading) → r ≡ passed r []
 passed-nil r =
