@@ -5,16 +5,10 @@ use Rattle.sqlite_format.specs.declared.kind.Tree.TheVariants.{Table}
 use Rattle.sqlite_format.specs.Cell.{IsCell}
 use Rattle.sqlite_format.specs.Page.{page_cells, IsPage}
 use Rattle.db_records.specs.Record.{record_bytes}
-use Rattle.db_pages.specs.Laid.{Laid, next_place, with_rows}
+use Rattle.db_pages.specs.Laid.{next_place}
 use Rattle.db_pages.specs.Grown.{behind, grown, holds_at, tree_of}
 use Rattle.db_pages.specs.Image.{Tabled, imaged, with_table}
 use Rattle.db_pages.specs.Page.{joined, leaf_page}
-
--- rows that are laid out behind others are laid out with them
-abbrev pub RowsFollow : Type 0
-RowsFollow =
-    (base first : ℕ) (laid : Laid) (rows more : List (List ℕ)) →
-    with_rows base (with_rows base laid first rows) (first + length rows) more ≡ with_rows base laid first (rows ++ more)
 
 -- two groups of rows, the first of whole blocks, join to the pages of all rows, where those of the second hold behind the first
 abbrev pub GroupsJoin : Type 0

@@ -1,10 +1,5 @@
 //! Laws over the definitions: what is joined is what one writer would have written, and a leaf reads back.
-ghost use Rattle.db_pages.specs.Laws.{GroupsJoin, LeafReadsBack, RowsFollow, TablesFollow};
-
-/// Rows that are laid out behind others are laid out with them.
-pub fn rows_follow()
-    ensures { RowsFollow }
-{}
+ghost use Rattle.db_pages.specs.Laws.{GroupsJoin, LeafReadsBack, TablesFollow};
 
 /// Groups of rows that are written apart and joined are the pages of all rows, where all but the last are whole blocks and each
 /// holds where it stands.
