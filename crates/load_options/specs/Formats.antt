@@ -3,7 +3,7 @@ use Rattle.std.specs.Prelude.{ℕ, Bool, true, false, if◌then◌else◌, List,
 use Rattle.std.specs.Option.{is_some}
 use Rattle.std.specs.Str.{bytes_eq}
 use Rattle.load_options.specs.declared.options.Command.{Command}
-use Rattle.load_options.specs.declared.options.Command.TheVariants.{Load, Sniff, Summary, Convert, Rejects, Batch, Make}
+use Rattle.load_options.specs.declared.options.Command.TheVariants.{Load, Sniff, Summary, Convert, Rejects, Batch, Make, Split}
 use Rattle.load_options.specs.declared.options.OutputFormat.{OutputFormat}
 use Rattle.load_options.specs.declared.options.OutputFormat.TheVariants.{Csv, Sqlite}
 
@@ -32,3 +32,4 @@ writes Rejects format = false
 writes Batch Csv = false
 writes Batch Sqlite = true
 writes Make format = false
+writes Split format = false

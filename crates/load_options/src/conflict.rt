@@ -43,10 +43,12 @@ pub enum Conflict {
     NamesNoHeader,
     /// Headers that must be the same, where there is none.
     ComparesNoHeader,
+    /// A file to be split, without a size.
+    LacksSize,
 }
 
 /// The conflicts in the order in which words are refused for them.
-pub const CONFLICTS: [Conflict; 18] = [
+pub const CONFLICTS: [Conflict; 19] = [
     Conflict::LimitsNoRejects,
     Conflict::VarcharAndTypes,
     Conflict::CountsDiffer,
@@ -65,7 +67,11 @@ pub const CONFLICTS: [Conflict; 18] = [
     Conflict::BoundsNone,
     Conflict::NamesNoHeader,
     Conflict::ComparesNoHeader,
+    Conflict::LacksSize,
 ];
+
+/// The place of the word that names the file.
+const FILE_PLACE: usize = 1;
 
 impl Conflict {
     /// The two options; one of them twice where it can't stand without another or with the command.
@@ -91,16 +97,17 @@ impl Conflict {
             Conflict::BoundsNone => ("max_errors", "max_errors"),
             Conflict::NamesNoHeader => ("same_header", "names"),
             Conflict::ComparesNoHeader => ("same_header", "header"),
+            Conflict::LacksSize => ("size", "size"),
         }
     }
 
-    /// The place of the later of the words that give the two options.
+    /// The place of the later of the words that give the two options; that of the file where none does.
     pub fn place(self, words: &[String]) -> usize
         requires within { length words.now + 2 < 2 ^ 64 }
         ensures { result ≡ place_of (map string_bytes words.now) self }
     {
         let (one, other) = self.options();
-        let first = given_at(words, one).unwrap_or(0);
-        first.max(given_at(words, other).unwrap_or(0))
+        let first = given_at(words, one).unwrap_or(FILE_PLACE);
+        first.max(given_at(words, other).unwrap_or(FILE_PLACE))
     }
 }

@@ -31,7 +31,11 @@ pub fn writes(command: Command, format: OutputFormat) -> bool
     match command {
         Command::Convert => true,
         Command::Batch => format == OutputFormat::Sqlite,
-        Command::Load | Command::Sniff | Command::Summary | Command::Rejects | Command::Make =>
-            false,
+        Command::Load
+        | Command::Sniff
+        | Command::Summary
+        | Command::Rejects
+        | Command::Make
+        | Command::Split => false,
     }
 }

@@ -64,6 +64,13 @@ pub const RANGE_SIZE: NumberRange = NumberRange {
     default: 1_048_576,
 };
 
+/// Bytes of which a part of a file has about as many. It has no default, since the command that has it can't do without.
+pub const SIZE: NumberRange = NumberRange {
+    least: 1,
+    most: 4_294_967_296,
+    default: 4_294_967_296,
+};
+
 /// The most rows that are made.
 pub const ROW_LIMIT: u64 = 10_000_000;
 

@@ -7,7 +7,7 @@ use Rattle.load_options.specs.Conflicts.{holds}
 use Rattle.load_options.proofs.conflicts.conflict_of.Goals as goal
 
 -- a conflict that there isn't is passed over
-other_conflict : (p : Conflict → Bool) (i : ℕ) (d : Conflict) (whole : Option Conflict) → i < 18 → p (get_or CONFLICTS i d) ≡ false → find p (drop i CONFLICTS) ≡ whole → find p (drop (i + 1) CONFLICTS) ≡ whole
+other_conflict : (p : Conflict → Bool) (i : ℕ) (d : Conflict) (whole : Option Conflict) → i < 19 → p (get_or CONFLICTS i d) ≡ false → find p (drop i CONFLICTS) ≡ whole → find p (drop (i + 1) CONFLICTS) ≡ whole
 other_conflict p i d whole lt fails h =
     sym (ap (find p) (drop_more CONFLICTS i d lt) ∙ ap (λ t. cond t (Some (get_or CONFLICTS i d)) (find p (drop (i + 1) CONFLICTS))) fails) ∙ h
 
