@@ -29,11 +29,12 @@ _csvload() {
         batch) options+=(same_header=) ;;
         make) options=(rows=) ;;
         sniff) options+=(explain=) ;;
+        split) options+=(size=) ;;
     esac
     # </options>
     COMPREPLY=()
     if [ "$COMP_CWORD" -eq 1 ]; then
-        mapfile -t COMPREPLY < <(compgen -W 'load summary convert rejects batch sniff make help version --help --version' -- "$word")
+        mapfile -t COMPREPLY < <(compgen -W 'load summary convert rejects batch sniff split make help version --help --version' -- "$word")
         return
     fi
     case ${COMP_WORDS[1]} in
@@ -44,7 +45,7 @@ _csvload() {
             compopt -o nospace
             [ "$COMP_CWORD" -eq 3 ] && mapfile -t COMPREPLY < <(compgen -W "${options[*]}" -- "$word")
             ;;
-        load | summary | convert | rejects | batch | sniff)
+        load | summary | convert | rejects | batch | sniff | split)
             if [ "$COMP_CWORD" -eq 2 ]; then
                 # Of several names the last one is completed; what is quoted is taken as it is meant.
                 local first= last

@@ -5,6 +5,8 @@ import itertools
 from messages.refusals import F, refused
 from messages.runs import Case, check, run, same
 
+LACKS_SIZE = "split wants size=BYTES: size=134217728 makes parts of about 128 MiB"
+
 
 def conflict(words: list[str], index: int, line: str, command: str = "load") -> Case:
     return refused([command, "f.csv", *words], "Conflict", index, line)
@@ -38,6 +40,10 @@ CONFLICTS = [
         "same_header=true and header=false can't stand together: there is no header then",
         "batch",
     ),
+    conflict([], 1, LACKS_SIZE, "split"),
+    conflict(["delim=;", "threads=2"], 1, LACKS_SIZE, "split"),
+    conflict(["delim=;", "quote=;"], 3, "delim=; and quote=; are the same character", "split"),
+    conflict(["to=csv", "size=9"], 2, "split writes no CSV: convert does", "split"),
     conflict(["max_errors=5"], 2, "max_errors=5 wants ignore_errors=true or store_rejects=true"),
     conflict(["names=a,b", "types=DATE"], 3, "names gives 2 and types 1: as many of each are wanted"),
     conflict(["column_names=a,b", "dtypes=DATE"], 3, "names gives 2 and types 1: as many of each are wanted"),

@@ -1,6 +1,10 @@
 """Hints after an answer: at another delimiter or byte, where one column was found, at lines that are no rows, at a quote that quotes nothing, at numbers that lose zeros, and at words."""
 
-from messages.runs import Case, check, run, same
+import pathlib
+import subprocess
+import tempfile
+
+from messages.runs import PROGRAM, Case, check, run, same
 
 RAGGED = {"f.csv": b"a,b,c,d\n1,2\n3,4,5\n6,7,8,9\n0\n"}
 
@@ -258,10 +262,24 @@ WORDS = [
 ]
 
 
+def check_long_part() -> None:
+    """A part that is longer than a load reads is told with its line: here behind a quote that is never closed, in a file with a hole."""
+    words = ["split", "f.csv", "size=4294967296", "delim=,", 'quote="', 'escape="', "header=true", "types=VARCHAR"]
+    wanted = {2: "", 3: "csvload: f.csv:2: this part has more than 4294967296 bytes: is a quote not closed?\n"}
+    with tempfile.TemporaryDirectory() as folder:
+        for more, said in wanted.items():
+            with pathlib.Path(folder, "f.csv").open("wb") as file:
+                file.write(b'a\n1\n"x')
+                file.truncate(2**32 + more)
+            done = subprocess.run([PROGRAM, *words], cwd=folder, stdin=subprocess.DEVNULL, capture_output=True, timeout=600)
+            same((done.returncode, done.stderr.decode()), (0, said), more)
+
+
 def main() -> None:
     check(HINTS)
     check_skip()
     check_noticed()
     check_zeros()
     check_cut()
+    check_long_part()
     check(WORDS)

@@ -31,11 +31,12 @@ def option(word: str, rule: str, line: str) -> Case:
 
 
 COMMANDS = [
-    refused([], "NoCommand", 0, "a command is wanted: load, summary, convert, rejects, batch, sniff or make" + HELP),
-    refused(["frob"], "BadCommand", 0, "'frob' is no command: load, summary, convert, rejects, batch, sniff and make are" + HELP),
+    refused([], "NoCommand", 0, "a command is wanted: load, summary, convert, rejects, batch, sniff, split or make" + HELP),
+    refused(["frob"], "BadCommand", 0, "'frob' is no command: load, summary, convert, rejects, batch, sniff, split and make are" + HELP),
     refused(["-v"], "BadCommand", 0, "'-v' is no command: -V or version is meant"),
     refused(["load"], "NoFile", 1, "a file's name is wanted after load" + HELP),
     refused(["load", ""], "NoFile", 1, "a file's name is wanted after load" + HELP),
+    refused(["split"], "NoFile", 1, "a file's name is wanted after split" + HELP),
     refused(["batch"], "NoFile", 1, "names of files are wanted after batch" + HELP),
     refused(["make"], "NoFile", 1, "a number is wanted after make" + HELP),
     refused(["make", "x"], "BadValue", 1, "'x' is no number: make takes one from 0 to 4294967295"),
@@ -68,6 +69,7 @@ OPTIONS = [
     option("--=1", "BadOption", "'--=1' gives no option of load" + HELP),
     option("explain=true", "BadOption", "explain is an option of sniff"),
     option("same_header=true", "BadOption", "same_header is an option of batch"),
+    option("size=7", "BadOption", "size is an option of split"),
     option("rows=7", "BadOption", "rows is an option of make"),
     refused(["batch", "f.csv", "explain=true"], "BadOption", 2, "explain is an option of sniff"),
     refused(["make", "7", "delim=,"], "BadOption", 2, "'delim=,' gives no option of make" + HELP),
@@ -92,6 +94,7 @@ OPTIONS = [
         3,
         r"'it's' is no option; several files: csvload batch './-f.csv,it'\''s'",
     ),
+    refused(["split", "f.csv", "b.csv"], "BadOption", 2, "'b.csv' is no option: one is written NAME=VALUE"),
     refused(["load", "-", "b.csv"], "BadOption", 2, "'b.csv' is no option; several files: csvload batch -,b.csv"),
     refused(
         ["batch", "a.csv,-", "b.csv"], "BadOption", 2, "'b.csv' is no option; several files: csvload batch a.csv,-,b.csv"
@@ -129,6 +132,7 @@ OPTIONS = [
 
 VALUES = [
     option("header=yes", "BadValue", "'header=yes' is refused: header takes true or false"),
+    refused(["split", "f.csv", "size=0"], "BadValue", 2, "'size=0' is refused: size takes a number from 1 to 4294967296"),
     option("threads=65", "BadValue", "'threads=65' is refused: threads takes a number from 1 to 64"),
     option(
         "sample_size=-1",

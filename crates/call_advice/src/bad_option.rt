@@ -8,9 +8,10 @@ use person_line::{Line, can_be_copied, folder_of};
 use std::rt::Files;
 
 /// Options that one command takes alone.
-const OF_ONE: [(&str, &str); 3] = [
+const OF_ONE: [(&str, &str); 4] = [
     ("explain", "sniff"),
     ("same_header", "batch"),
+    ("size", "split"),
     ("rows", "make"),
 ];
 
@@ -79,7 +80,7 @@ fn push_spaced_name<R: Files>(rt: &R, said: &mut Line, words: &[String]) -> bool
 fn may_be_files(words: &[String], word: &str) -> bool {
     let (command, file) = (command_word(words), subject(words));
     let is_cut = command != "batch" && (file.contains(',') || word.contains(','));
-    command != "make"
+    !matches!(command, "make" | "split")
         && !word.is_empty()
         && !word.starts_with('-')
         && !is_cut

@@ -44,6 +44,7 @@ fn reason(conflict: Conflict, command: &str, format: &str) -> &'static str {
         Conflict::BoundsNone => "{} wants ignore_errors=true or store_rejects=true",
         Conflict::NamesNoHeader => "{} and {} can't stand together: given names are no header's",
         Conflict::ComparesNoHeader => "{} and {} can't stand together: there is no header then",
+        Conflict::LacksSize => "{} wants size=BYTES: size=134217728 makes parts of about 128 MiB",
     }
 }
 
@@ -64,7 +65,7 @@ fn push_told(said: &mut Line, words: &[String], conflict: Conflict) {
             let types = count_of_pieces(value_of(second)) as u64;
             said.say(why, &[Number(names), Number(types)]);
         }
-        Conflict::WritesOther => said.say(why, &[Text(command)]),
+        Conflict::WritesOther | Conflict::LacksSize => said.say(why, &[Text(command)]),
         Conflict::LeavesNoQuote => {
             let escape = word_of(words, "escape");
             said.say(why, &[Word(escape), Word(first), Word(second)]);

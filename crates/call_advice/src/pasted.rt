@@ -10,16 +10,20 @@ const WORDS: &[u8] = b"words|";
 /// How many bytes of a text tell what hints need: the first line of a report, and its columns or a table's names.
 const FRONT: usize = 4096;
 
+/// How many bytes of a text tell the parts of a file: some 1,500,000 of them.
+const PARTS: usize = 1 << 26;
+
 /// Options in whose place the words stand, and those of the explanation.
 const REPLACED: [&str; 7] = [
     "explain", "output", "delim", "quote", "escape", "header", "types",
 ];
 
-/// How much of the text that is written has to be known: all that explains a file, and else the front, where it is for a
-/// person to read.
+/// How much of the text that is written has to be known: all that explains a file, most of what tells its parts, and else the
+/// front, where it is for a person to read.
 pub fn most_kept(words: &[String]) -> usize {
     match command_word(words) {
         "sniff" if gives(words, "explain", "true") => usize::MAX,
+        "split" => PARTS,
         "convert" if gives(words, "to", "sqlite") => 0,
         "batch" | "convert" | "load" | "sniff" | "summary" => FRONT,
         _ => 0,

@@ -52,7 +52,7 @@ fn are_there<R: Files>(rt: &R, names: &str) -> bool {
 
 /// Whether a name is those of several files, which `batch` reads.
 fn names_several<R: Files>(rt: &R, words: &[String], name: &str) -> bool {
-    command_word(words) != "batch"
+    !matches!(command_word(words), "batch" | "split")
         && name.contains(',')
         && can_be_copied(name)
         && are_there(rt, name)

@@ -42,6 +42,7 @@ fn has_text_defaults(options: &Options) -> bool {
         && options.nullstr.as_slice() == b"".as_slice()
         && options.nulls.len() == 0
         && options.max_errors.is_none()
+        && options.size.is_none()
         && options.to.is_none()
         && options.table.as_slice() == b"data".as_slice()
 }
