@@ -1,5 +1,5 @@
 // What is said where a file isn't as the words want it.
-use call_advice::file_at;
+use call_advice::{command_word, file_at};
 use person_line::Line;
 use person_line::Part::{Bytes, Name, Number, Subject};
 use report_text::Mismatch;
@@ -40,7 +40,10 @@ pub fn push_mismatch(said: &mut Line, words: &[String], mismatch: &Mismatch) {
             push_columns(said, names);
         }
         Mismatch::TooManyColumns(limit) => {
-            let template = "{} has more than {} columns, the most that a table of SQLite has";
+            let template = match command_word(words) {
+                "split" => "{} has more than {} columns, the most that types takes",
+                _ => "{} has more than {} columns, the most that a table of SQLite has",
+            };
             said.say(template, &[subject, Number(*limit)]);
         }
     }
