@@ -43,7 +43,7 @@ FEW_WRITES = 250
 
 # Each call that writes.
 CALLS = [f"{command} short.csv" for command in ("load", "summary", "convert", "rejects", "batch", "sniff")]
-CALLS += ["make 7", "--help", "--version"]
+CALLS += ["split short.csv size=9", "make 7", "--help", "--version"]
 
 FAULT = b"fault|read\n"
 
@@ -71,6 +71,17 @@ def report(rows: int, header: bool = True) -> bytes:
     return front + columns + cells + b"rows|%d\nerrors|0|0\n" % rows
 
 
+# Where the file of three rows can be cut by 16 bytes.
+PARTS = rb"""options|delim=,|quote="|escape="|newline=\n|skip=0|header=true
+column|0|BIGINT|id
+column|1|VARCHAR|name
+words|delim=,|quote="|escape="|header=true|types=BIGINT,VARCHAR
+head|8|1
+part|0|8|11|2|1
+part|1|19|22|3|2
+parts|2|41|4|3
+"""
+
 SHORT, LEFT, WHOLE, PART = report(3), report(3, header=False), report(ROWS), report(FEWER_ROWS)
 
 
@@ -93,6 +104,8 @@ def input_trials() -> list[Trial]:
         Trial("a folder as standard input", "csvload load - <folder", 2, FAULT),
         Trial("a file as standard input", "csvload load - <short.csv", 0, SHORT),
         Trial("a pipe", "cat short.csv | csvload load -", 0, SHORT),
+        Trial("a folder to be split", "csvload split folder size=16", 2, FAULT),
+        Trial("a pipe to be split", "cat short.csv | csvload split - size=16", 0, PARTS),
         Trial("a pipe that pauses", "{ head -c 12 short.csv; sleep 0.3; tail -c +13 short.csv; } | csvload load -", 0, SHORT),
         Trial("what is left behind a line", "{ read -r line; csvload load - header=false; } <short.csv", 0, LEFT),
         Trial("what is left behind 8 bytes", "{ dd bs=8 count=1 >front; csvload load - header=false; } <short.csv", 0, LEFT),

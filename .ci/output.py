@@ -38,6 +38,7 @@ WRITES = (
     ["batch", "good.csv,good.csv"],
     ["batch", "good.csv,good.csv", "to=sqlite"],
     ["sniff", "good.csv"],
+    ["split", "many.csv", "size=999"],
     ["convert", "many.csv", "threads=1"],
     ["convert", "many.csv", "threads=4"],
     ["convert", "many.csv", "threads=2", "pipeline=true"],
@@ -47,7 +48,9 @@ WRITES = (
 # What isn't, with its status.
 REFUSES = (
     (1, ["convert", "good.csv", "to=jsonx"]),
+    (1, ["split", "good.csv"]),
     (2, ["convert", "absent.csv"]),
+    (2, ["split", "absent.csv", "size=9"]),
     (3, ["convert", "faulty.csv", TYPES, "to=sqlite"]),
     (3, ["load", "faulty.csv", TYPES]),
     (4, ["convert", "good.csv", "column_types=other:DATE"]),

@@ -83,7 +83,7 @@ int posix_memalign(void **piece, size_t alignment, size_t size) {
 FAULTY = b"1,a\nx,b\n3,c\n4\n5,\"d\"\"e\"\n"
 
 # What each run is given: a load with rejects, a load that ends with its first error, a summary, what is found, a made file,
-# a table as CSV, and two files; then the rejects as CSV, a database, what explains what is found, two files of one header, types
+# a table as CSV, and two files; then the rejects as CSV, a database, what explains what is found, parts, two files of one header, types
 # by name, several texts for null, a bound on faults that is passed, and stages.
 RUNS = [
     ["load", "FILE", "types=BIGINT,VARCHAR", "header=false", "store_rejects=true", "range_size=4"],
@@ -96,6 +96,7 @@ RUNS = [
     ["rejects", "FILE", "types=BIGINT,VARCHAR", "header=false", "range_size=4"],
     ["convert", "FILE", "to=sqlite", "types=BIGINT,VARCHAR", "header=false", "store_rejects=true", "range_size=4"],
     ["sniff", "FILE", "explain=true"],
+    ["split", "FILE", "size=4"],
     ["batch", "FILE,FILE", "same_header=true", "header=true", "ignore_errors=true", "range_size=4"],
     ["load", "FILE", "column_types=column0:BIGINT", "header=false", "ignore_errors=true", "range_size=4"],
     ["load", "FILE", "nulls=,NA,x", "header=false", "ignore_errors=true", "range_size=4"],
@@ -130,7 +131,7 @@ def refuse_each(program: str, words: list[str], library: str, later: bool, most:
 
 
 def crews_of(command: str, workers: bool) -> list[list[str]]:
-    if command in ("make", "sniff"):
+    if command in ("make", "sniff", "split"):
         return [[]]
     return [["threads=4"]] if workers else [["threads=1"], ["threads=4"]]
 
