@@ -42,15 +42,18 @@ abbrev pub types_part : Bool → Sniffed → List (List ℕ)
 types_part false s = []
 types_part true s = (codes "types=" ++ type_names s.types) ∷ []
 
--- the words that fix what was found
-abbrev pub words_line : Bool → Sniffed → List ℕ
-words_line fixes_types s = line_of
-    (codes "words"
+-- the words that fix what was found, behind the name of their line
+abbrev pub fixing_words : Bool → Sniffed → List (List ℕ)
+fixing_words fixes_types s =
+    codes "words"
     ∷ (codes "delim=" ++ shown_option (Some s.dialect.delim))
     ∷ (codes "quote=" ++ shown_option s.dialect.quote)
     ∷ (codes "escape=" ++ shown_option s.dialect.escape)
     ∷ (codes "header=" ++ truth_text s.header)
-    ∷ types_part fixes_types s)
+    ∷ types_part fixes_types s
+
+abbrev pub words_line : Bool → Sniffed → List ℕ
+words_line fixes_types s = line_of (fixing_words fixes_types s)
 
 -- column, type, line and value
 abbrev pub why_line : Why → List ℕ

@@ -30,6 +30,7 @@ IsPrintable (outcome.Mismatch mismatch) = ⊤
 IsPrintable (outcome.TooManyFaults bound) = ⊤
 IsPrintable (outcome.Sniffed s) = length s.names ≡ length s.types
 IsPrintable (outcome.Explained s e) = length s.names ≡ length s.types
+IsPrintable (outcome.Split s further cuts) = length s.names ≡ length s.types
 IsPrintable (outcome.Loaded l) = IsPrintableLoad l
 IsPrintable (outcome.Summary l tap_lines) = IsPrintableLoad l
 IsPrintable (outcome.Batch s batch store stats) = IsPrintableBatch s batch

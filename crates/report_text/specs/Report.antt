@@ -9,6 +9,7 @@ use Rattle.report_text.specs.declared.outcome.Loaded.{Loaded}
 use Rattle.report_text.specs.declared.outcome.Outcome.{Outcome}
 use Rattle.report_text.specs.declared.outcome.Outcome.TheVariants as outcome
 use Rattle.report_text.specs.ExplainedLines.{explanation_lines}
+use Rattle.report_text.specs.SplitLines.{split_lines}
 use Rattle.report_text.specs.Lines.{options_line, column_lines, row_line, rows_line, scan_line, error_line, errors_line, stats_line, refused_line, read_fault_line, too_large_line, mismatch_line, too_many_faults_line}
 
 -- what was found: the options and the columns
@@ -50,6 +51,7 @@ has_rows (outcome.Mismatch mismatch) = false
 has_rows (outcome.TooManyFaults bound) = false
 has_rows (outcome.Sniffed s) = false
 has_rows (outcome.Explained s e) = false
+has_rows (outcome.Split s further cuts) = false
 has_rows (outcome.Loaded l) = true
 has_rows (outcome.Summary l tap_lines) = false
 has_rows (outcome.Batch s batch store stats) = true
@@ -63,6 +65,7 @@ report_of (outcome.Mismatch mismatch) = mismatch_line mismatch
 report_of (outcome.TooManyFaults bound) = too_many_faults_line bound
 report_of (outcome.Sniffed s) = found_lines s
 report_of (outcome.Explained s e) = found_lines s ++ explanation_lines s e
+report_of (outcome.Split s further cuts) = found_lines s ++ split_lines s further cuts
 report_of (outcome.Loaded l) = loaded_lines l (flat_map row_line l.table.rows) []
 report_of (outcome.Summary l tap_lines) = loaded_lines l [] tap_lines
 report_of (outcome.Batch s batch store stats) = batch_lines s batch store stats
@@ -77,6 +80,7 @@ faults_in (outcome.Mismatch mismatch) = 0
 faults_in (outcome.TooManyFaults bound) = 0
 faults_in (outcome.Sniffed s) = 0
 faults_in (outcome.Explained s e) = 0
+faults_in (outcome.Split s further cuts) = 0
 faults_in (outcome.Loaded l) = l.book.all
 faults_in (outcome.Summary l tap_lines) = l.book.all
 faults_in (outcome.Batch s batch store stats) = all_in batch.files

@@ -1,9 +1,10 @@
 // The lines of an explanation.
 ghost use Rattle.std.specs.Prelude.{◌≡◌, ◌++◌, false, true, flat_map, IfOk, OnOk};
-ghost use Rattle.report_text.specs.ExplainedLines.{candidate_line, explanation_lines, further_type, hint_line, hint_text, type_names, varchar_word, why_line, words_line};
+ghost use Rattle.report_text.specs.ExplainedLines.{candidate_line, explanation_lines, fixing_words, further_type, hint_line, hint_text, type_names, varchar_word, why_line, words_line};
+ghost use Rattle.report_text.specs.Part.{front_of};
 
 use crate::found::truth_text;
-use crate::lines::{Part, push_line, push_plain};
+use crate::lines::{Part, push_front, push_line, push_plain};
 use crate::shown::{push_shown, push_shown_option};
 use csv_sniffer::{Explanation, Hint, Sniffed, Why};
 use csv_source::{Bytes, NoMemory};
@@ -83,12 +84,12 @@ fn push_words_alone(into: &mut Draft, sniffed: &Sniffed) -> Result<(), NoMemory>
     )
 }
 
-/// Appends the words that fix the dialect, the header and the types, whose names are given.
-fn push_words_with(into: &mut Draft, sniffed: &Sniffed, types: &[u8]) -> Result<(), NoMemory>
+/// Appends the words that fix the dialect, the header and the types, whose names are given; no LF.
+fn push_words_named(into: &mut Draft, sniffed: &Sniffed, types: &[u8]) -> Result<(), NoMemory>
     requires named { types.now ≡ type_names sniffed.now.types }
-    ensures { OnOk result (into.new.text ≡ into.old.text ++ words_line true sniffed.now) }
+    ensures { OnOk result (into.new.text ≡ into.old.text ++ front_of (fixing_words true sniffed.now)) }
 {
-    push_line(
+    push_front(
         into,
         b"words",
         &[
@@ -110,6 +111,18 @@ fn type_names(alloc: Global, types: &[ColumnType]) -> Result<Bytes, NoMemory>
     Ok(Bytes::from_vec(names.into_text()))
 }
 
+/// Appends the words that fix the dialect, the header and the types; no LF.
+pub(crate) fn push_words_with(
+    into: &mut Draft,
+    alloc: Global,
+    sniffed: &Sniffed,
+) -> Result<(), NoMemory>
+    ensures { OnOk result (into.new.text ≡ into.old.text ++ front_of (fixing_words true sniffed.now)) }
+{
+    let types = type_names(alloc, sniffed.types.as_slice())?;
+    push_words_named(into, sniffed, types.as_slice())
+}
+
 /// Appends the words that fix what was found.
 fn push_words(
     into: &mut Draft,
@@ -122,8 +135,8 @@ fn push_words(
     if !fixes_types {
         return push_words_alone(into, sniffed);
     }
-    let types = type_names(alloc, sniffed.types.as_slice())?;
-    push_words_with(into, sniffed, types.as_slice())
+    push_words_with(into, alloc, sniffed)?;
+    into.push(b'\n')
 }
 
 /// Appends the line of a reason.

@@ -20,6 +20,7 @@ mod report_rows;
 mod rows;
 mod runs;
 mod shown;
+mod split;
 mod straight;
 mod text;
 

@@ -3,7 +3,7 @@ ghost use Rattle.std.specs.Prelude.{◌≡◌, ◌++◌, ◌∷◌, [], codes, m
 ghost use Rattle.std.specs.Fmt.{decimal};
 ghost use Rattle.std.specs.Option.{option_map_or};
 ghost use Rattle.csv_source.specs.Line.{line_of};
-ghost use Rattle.report_text.specs.Part.{part_text};
+ghost use Rattle.report_text.specs.Part.{front_of, part_text};
 ghost use Rattle.report_text.specs.Lines.{errors_line, rows_line, stats_line};
 
 use crate::Stats;
@@ -64,16 +64,24 @@ fn push_part(into: &mut Draft, part: Part<'_>) -> Result<(), NoMemory>
     }
 }
 
-/// Appends a line: its name, the parts with a bar before each, and LF. The parts stand on the caller's stack, so that a
-/// call reads as its definition does, and no line takes memory of its own.
-pub(crate) fn push_line(into: &mut Draft, name: &[u8], parts: &[Part<'_>]) -> Result<(), NoMemory>
-    ensures { OnOk result (into.new.text ≡ into.old.text ++ line_of (name.now ∷ map part_text parts.now)) }
+/// Appends the front of a line: its name, and the parts with a bar before each.
+pub(crate) fn push_front(into: &mut Draft, name: &[u8], parts: &[Part<'_>]) -> Result<(), NoMemory>
+    ensures { OnOk result (into.new.text ≡ into.old.text ++ front_of (name.now ∷ map part_text parts.now)) }
 {
     into.append(name)?;
     for part in parts {
         into.push(b'|')?;
         push_part(into, *part)?;
     }
+    Ok(())
+}
+
+/// Appends a line: its name, the parts with a bar before each, and LF. The parts stand on the caller's stack, so that a
+/// call reads as its definition does, and no line takes memory of its own.
+pub(crate) fn push_line(into: &mut Draft, name: &[u8], parts: &[Part<'_>]) -> Result<(), NoMemory>
+    ensures { OnOk result (into.new.text ≡ into.old.text ++ line_of (name.now ∷ map part_text parts.now)) }
+{
+    push_front(into, name, parts)?;
     into.push(b'\n')
 }
 

@@ -3,6 +3,7 @@ ghost use Rattle.std.specs.Prelude.{◌≡◌, ◌++◌, false, length, IfOk, On
 ghost use Rattle.report_text.specs.ExplainedLines.{explanation_lines};
 ghost use Rattle.report_text.specs.Lines.{error_line};
 ghost use Rattle.report_text.specs.Report.{found_lines, has_rows, report_of};
+ghost use Rattle.report_text.specs.SplitLines.{split_lines};
 ghost use Rattle.report_text.specs.Printable.{IsPrintable};
 
 use crate::Outcome;
@@ -13,11 +14,14 @@ use crate::faults::{
 use crate::found::push_found;
 use crate::loaded::push_summary;
 use crate::rejects::push_reject;
+use crate::split::push_split;
 use csv_sniffer::{Explanation, Sniffed};
 use csv_source::NoMemory;
+use part_cuts::Cuts;
 use reject_book::Reject;
 use std::alloc::Global;
 use text_pieces::{Draft, Pieces};
+use value_types::Names;
 
 /// Appends what was found, and the first error.
 fn push_first_error(into: &mut Draft, sniffed: &Sniffed, reject: &Reject) -> Result<(), NoMemory>
@@ -42,6 +46,21 @@ fn push_explained(
     push_explanation(into, alloc, sniffed, explanation)
 }
 
+/// Appends what was found, the words of each part, and where the parts begin.
+fn push_parts(
+    into: &mut Draft,
+    alloc: Global,
+    sniffed: &Sniffed,
+    further: &Names,
+    cuts: &Cuts,
+) -> Result<(), NoMemory>
+    requires { length sniffed.now.names ≡ length sniffed.now.types }
+    ensures { OnOk result (into.new.text ≡ into.old.text ++ (found_lines sniffed.now ++ split_lines sniffed.now further.now cuts.now)) }
+{
+    push_found(into, sniffed)?;
+    push_split(into, alloc, sniffed, further, cuts)
+}
+
 /// Appends the text of a report that has no rows.
 fn push_short(into: &mut Draft, alloc: Global, outcome: &Outcome) -> Result<(), NoMemory>
     requires printable { IsPrintable outcome.now }
@@ -58,6 +77,7 @@ fn push_short(into: &mut Draft, alloc: Global, outcome: &Outcome) -> Result<(), 
         Outcome::Explained(sniffed, explanation) => {
             push_explained(into, alloc, sniffed, explanation)
         }
+        Outcome::Split(sniffed, further, cuts) => push_parts(into, alloc, sniffed, further, cuts),
         Outcome::Summary(loaded, taps) => push_summary(into, loaded, taps.as_slice()),
         Outcome::FirstError(sniffed, reject) => push_first_error(into, sniffed, reject),
         Outcome::Loaded(_) | Outcome::Batch(..) => unreachable!(),
