@@ -5,5 +5,6 @@ pub mod Texts
 pub mod ReportTexts
 pub mod RowCells
 pub mod RowTexts
+pub mod SplitParts
 pub mod TwoDigits
 mod Worked

@@ -1,5 +1,5 @@
 -- Texts that grow at their end.
-use Rattle.std.proofs.Common.{◌≡◌, ℕ, zero, suc, ◌+◌, List, [], ◌∷◌, ◌++◌, map, take, drop, sym, ap, ◌∙◌, append-nil, arith, Some}
+use Rattle.std.proofs.Common.{◌≡◌, ℕ, zero, suc, ◌+◌, List, [], ◌∷◌, ◌++◌, map, take, drop, sym, ap, ◌∙◌, append_assoc, append-nil, arith, Some}
 use Rattle.std.specs.Prelude.{flat_map, slice_get}
 use Rattle.std.specs.List.{range_with_len, join_with_byte}
 use Rattle.std.proofs.lemmas.Grind.{flat_map-append}
@@ -35,6 +35,14 @@ pub join-flat_map : {X : Type 0} (byte : ℕ) (f : X → List ℕ) (first : List
     → join_with_byte byte (first ∷ map f xs) ≡ first ++ flat_map (λ x. byte ∷ f x) xs
 join-flat_map byte f first [] = sym (append-nil first)
 join-flat_map byte f first (x ∷ xs) = ap (λ rest. first ++ byte ∷ rest) (join-flat_map byte f (f x) xs)
+
+-- the same behind several
+pub join-more : {X : Type 0} (byte : ℕ) (f : X → List ℕ) (first : List ℕ) (parts : List (List ℕ)) (xs : List X)
+    → join_with_byte byte (first ∷ (parts ++ map f xs)) ≡ join_with_byte byte (first ∷ parts) ++ flat_map (λ x. byte ∷ f x) xs
+join-more byte f first [] xs = join-flat_map byte f first xs
+join-more byte f first (part ∷ parts) xs =
+    ap (λ rest. first ++ byte ∷ rest) (join-more byte f part parts xs)
+    ∙ sym (append_assoc first (byte ∷ join_with_byte byte (part ∷ parts)) (flat_map (λ x. byte ∷ f x) xs))
 
 drop_suc : {X : Type 0} (xs : List X) (k : ℕ) (x : X) → slice_get xs k ≡ Some x → drop k xs ≡ x ∷ drop (suc k) xs
 drop_suc [] k x at = absurd (let no : ⊥ = cc in no)
