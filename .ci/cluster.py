@@ -1,7 +1,7 @@
 #!/usr/bin/env python3
-"""Reads many files by csvload.dask through a scheduler and two workers, processes on the loopback: each cell and each reject as
-`batch` has them, the refusals, and a worker that is killed. CSVLOAD names the program. Where Dask isn't there that is said, and
-nothing of it is tried.
+"""Reads many files, and one in parts, by csvload.dask through a scheduler and two workers, processes on the loopback: each cell and
+each reject as `batch` and `load` have them, the refusals, and a worker that is killed. CSVLOAD names the program. Where Dask isn't
+there that is said, and nothing of it is tried.
 """
 
 import contextlib
@@ -43,6 +43,11 @@ HEADER, _, FIRST_ROWS = HARD.partition(b"\n")
 FAULTS = b'x,yes,,,,"a\nb"\n7,,,,,"good"\n8,no,2024-02-30,,,"bytes \xff"\n9\n'
 FILES = {"hard 1.csv": HARD, "hard 2.csv": HEADER + b"\n" + FAULTS + FIRST_ROWS, "hard 10.csv": HEADER + b"\n", "hard 11.csv": HARD + b"9\n"}
 OPTIONS = {"delim": ",", "quote": '"', "escape": '"', "header": True, "allow_quoted_nulls": False, "types": hard_rows.TYPES}
+# One file in parts of so many bytes: between quotes there are line ends of all kinds, and comment lines have quotes.
+BLOCK = 400
+COMMENT = b'# no "row\n'
+LARGE = HEADER + b"\n" + b"".join(COMMENT + FIRST_ROWS + (FAULTS if number % 2 else b"\n") for number in range(8))
+PARTS = {"blocksize": BLOCK, "comment": "#", **OPTIONS}
 # Files that have to be taken for files with their own header: what is in them, and what is given besides.
 HEADERS: list[tuple[bytes, dict[str, csvload.Option]]] = [
     (b'"a;b";"c ""d"";";e\n1;2;3\n', {}),
@@ -60,10 +65,12 @@ HEADERS: list[tuple[bytes, dict[str, csvload.Option]]] = [
     (b"1,2\n3,4\n", {"header": False}),
     (b'"a\r\nb"\n1\n\n2\n', {}),
 ]
-# A program that kills the worker that calls it, the first time that it is to read hard 11.csv, and tells where its text would go.
+# A program that kills the worker that calls it, the first time that it is to read hard 11.csv or has read some of the second part,
+# and tells where its text would go.
 KILLER = """#!/bin/sh
-case $2 in
-*'hard 11.csv') if mkdir "$0.killed" 2>/dev/null; then
+case $1$2 in
+*'hard 11.csv' | convert-) if mkdir "$0.killed" 2>/dev/null; then
+    [ "$2" != - ] || head -c 100 >/dev/null
     into=$(readlink "/proc/$$/fd/1")
     echo "$into" >"$0.killed/into"
     kill -9 "$PPID"
@@ -125,6 +132,22 @@ class Trial(unittest.TestCase):
         pathlib.Path(name).write_bytes(data)
         return name
 
+    def kill_one(self, frame: dask.dataframe.DataFrame) -> pandas.DataFrame:
+        """What is computed where a worker is killed in mid-task. What that leaves behind the next worker removes."""
+        killer, killed = pathlib.Path("killer").absolute(), pathlib.Path("killer.killed")
+        killer.write_text(KILLER.format(program=PROGRAM))
+        killer.chmod(0o755)
+        self.client.run(name_program, str(killer))
+        made = self.client.compute(frame).result(LIMIT)
+        into = (killed / "into").read_text().strip()
+        self.assertTrue(into.startswith(f"{os.getcwd()}/workers/"), into)
+        self.assertTrue(os.path.exists(into))
+        self.stack.enter_context(running(*self.worker))
+        self.client.wait_for_workers(2, timeout=LIMIT)
+        self.assertFalse(os.path.exists(into))
+        self.client.run(name_program, PROGRAM)
+        return made
+
     def refuses(self, frame: dask.dataframe.DataFrame, status: int, text: str) -> None:
         """All is asked of the workers."""
         with self.assertRaises(csvload.Refused) as caught:
@@ -141,10 +164,15 @@ class Trial(unittest.TestCase):
         self.assertEqual(*([[type(cell) for cell in row] for row in rows] for rows in (got, wanted)))
 
 
+def report(*words: str, **options: csvload.Option) -> Report:
+    """What the program says, with the rejects."""
+    call = [PROGRAM, *words, *csvload.running.words_of({**options, "store_rejects": True})]
+    return Report(subprocess.run(call, check=True, capture_output=True, timeout=LIMIT).stdout)
+
+
 def batch(*files: str, **options: csvload.Option) -> Report:
-    """What the program's batch says of files, with the rejects."""
-    words = csvload.running.words_of({**options, "store_rejects": True})
-    return Report(subprocess.run([PROGRAM, "batch", ",".join(files), *words], check=True, capture_output=True, timeout=LIMIT).stdout)
+    """What its batch says of files."""
+    return report("batch", ",".join(files), **options)
 
 
 class Read(Trial):
@@ -163,21 +191,8 @@ class Read(Trial):
         self.assertEqual(list(rejects.itertuples(index=False, name=None)), wanted.rejects["error"])
 
     def test_a_killed_worker_changes_nothing(self) -> None:
-        killer = pathlib.Path("killer").absolute()
-        killer.write_text(KILLER.format(program=PROGRAM))
-        killer.chmod(0o755)
-        with running(*self.worker):
-            self.client.wait_for_workers(3, timeout=LIMIT)
-            self.client.run(name_program, str(killer))
-            frame = self.client.compute(csvload.dask.read("hard *.csv", ignore_errors=True, threads=2, **OPTIONS)).result(LIMIT)
-            into = pathlib.Path("killer.killed", "into").read_text().strip()
-            self.assertTrue(into.startswith(f"{os.getcwd()}/workers/"), into)
-            self.assertTrue(os.path.exists(into))
-            with running(*self.worker):
-                self.client.wait_for_workers(3, timeout=LIMIT)
-            self.assertFalse(os.path.exists(into))
-            self.has_rows(frame, batch(*FILES, **OPTIONS))
-            self.client.run(name_program, PROGRAM)
+        frame = self.kill_one(csvload.dask.read("hard *.csv", ignore_errors=True, threads=2, **OPTIONS))
+        self.has_rows(frame, batch(*FILES, **OPTIONS))
 
     def test_a_file_that_was_changed_is_read_anew(self) -> None:
         file = self.write("changed.csv", b"n\n1\n")
@@ -203,6 +218,74 @@ class Read(Trial):
                 one = csvload.frame(first, **options)
                 pandas.testing.assert_frame_equal(lazy.compute(), pandas.concat([one, one]))
                 self.assertEqual(dict(lazy.dtypes), dict(one.dtypes))
+
+
+class Parts(Trial):
+    """One file, each part of which is a partition."""
+
+    def large(self) -> Report:
+        """The file, and what the program says of the whole."""
+        return report("load", self.write("large.csv", LARGE), comment="#", **OPTIONS)
+
+    def test_every_cell_and_every_reject_is_that_of_the_whole(self) -> None:
+        wanted = self.large()
+        self.assertEqual((len(wanted.rows), len(wanted.rejects["error"])), (8 * len(hard_rows.ROWS) + 4, 16))
+        lazy = csvload.dask.read("large.csv", ignore_errors=True, **PARTS)
+        frame = self.client.compute(lazy).result(LIMIT)
+        self.assertEqual(dict(lazy.dtypes), dict(frame.dtypes))
+        self.assertGreater(lazy.npartitions, 8)
+        self.has_rows(frame, wanted)
+        rejects = self.client.compute(csvload.dask.rejects("large.csv", **PARTS)).result(LIMIT)
+        self.assertEqual(list(rejects.itertuples(index=False, name=None)), wanted.rejects["error"])
+
+    def test_a_killed_worker_changes_nothing(self) -> None:
+        wanted = self.large()
+        self.has_rows(self.kill_one(csvload.dask.read("large.csv", ignore_errors=True, **PARTS)), wanted)
+
+    def test_a_late_fault_has_its_true_line(self) -> None:
+        self.write("late.csv", HEADER + b"\n" + (COMMENT + FIRST_ROWS) * 6 + FAULTS)
+        line = report("load", "late.csv", comment="#", **OPTIONS).rejects["error"][0][2]
+        text = f"csvload: {os.getcwd()}/late.csv:{line}: column 1 'number': Could not convert string \"x\" to 'BIGINT'"
+        self.refuses(csvload.dask.read("late.csv", **PARTS), 3, text)
+
+    def test_an_absent_program_is_told_with_its_machine(self) -> None:
+        self.large()
+        (one, _) = self.client.scheduler_info()["workers"]
+        frame = csvload.dask.read("large.csv", ignore_errors=True, **PARTS)
+        self.client.run(name_program, "/nowhere/csvload", workers=[one])
+        with self.assertRaisesRegex(FileNotFoundError, f"no such program on {os.uname().nodename}, .*'/nowhere/csvload'"):
+            self.client.compute(frame).result(LIMIT)
+        self.client.run(name_program, PROGRAM)
+
+    def test_a_file_that_one_worker_lacks_is_told_with_the_machine(self) -> None:
+        self.large()
+        (one, _) = self.client.scheduler_info()["workers"]
+        name = "/proc/self/cwd/large.csv"
+        frame = csvload.dask.read(name, ignore_errors=True, **PARTS)
+        self.client.run(os.chdir, "/", workers=[one])
+        self.refuses(frame, 2, f"csvload: '{name}' isn't there on {os.uname().nodename}")
+        self.client.run(os.chdir, os.getcwd(), workers=[one])
+
+    def test_a_file_that_was_changed_is_told(self) -> None:
+        file = self.write("grown.csv", b"n\n1\n2\n3\n")
+        frame = csvload.dask.read(file, blocksize=2)
+        self.write(file, b"n\n1\n2\n3\n4\n")
+        with self.assertRaisesRegex(OSError, "it was changed since it was cut into parts: '.*grown.csv'"):
+            self.client.compute(frame).result(LIMIT)
+
+    def test_sizes_are_written_as_in_dask(self) -> None:
+        file = self.write("sizes.csv", b"n\n" + b"1\n" * 3000)
+        counts = {size: csvload.dask.read(file, blocksize=size).npartitions for size in ("default", None, "1 kB", "1KiB", 3000)}
+        self.assertEqual(counts, {"default": 1, None: 1, "1 kB": 7, "1KiB": 6, 3000: 3})
+        for size, error in (0, csvload.Refused), ("some", ValueError):
+            with self.subTest(size), self.assertRaises(error):
+                csvload.dask.read(file, blocksize=size)
+
+    def test_words_that_are_given_are_those_of_each_part(self) -> None:
+        file = self.write("words.csv", b"a title\n'k';'day'\n'1\n';NA\n\n'x';2024-02-29\n")
+        given = {"skip": 1, "quote": "'", "nulls": ["", "NA"], "column_types": {"k": "VARCHAR"}}
+        with dask.config.set(scheduler="sync"):
+            self.has_rows(csvload.dask.read(file, blocksize=1, **given).compute(), report("load", file, **given))
 
 
 class Refusals(Trial):
@@ -283,7 +366,7 @@ def main() -> None:
         print(text)
     if not result.wasSuccessful():
         sys.exit(1)
-    print(f"{sys.argv[0]}: {result.testsRun} tests of many files by Dask {dask.__version__} and two workers, one killed in mid-task")
+    print(f"{sys.argv[0]}: {result.testsRun} tests of many files, and one in parts, by Dask {dask.__version__} and two workers, one killed in mid-task")
 
 
 if __name__ == "__main__":

@@ -10,7 +10,7 @@ Options are the program's own, as keywords:
     >>> orders.columns["shipped"][2] is None
     True
 
-Many files as one lazy DataFrame of Dask are read by `csvload.dask`, which is imported by its name.
+A large file in parts, or many files, as one lazy DataFrame of Dask are read by `csvload.dask`, which is imported by its name.
 
 The program is `csvload` on PATH, or the one that the environment variable CSVLOAD names.
 """

@@ -3,7 +3,7 @@
 import os
 import sqlite3
 import tempfile
-from collections.abc import Callable, Iterator, Sequence
+from collections.abc import Callable, Iterable, Iterator, Sequence
 from contextlib import closing, contextmanager
 from dataclasses import dataclass
 from datetime import date, datetime, time
@@ -57,9 +57,11 @@ def read(file: Union[str, os.PathLike[str]], **options: Option) -> Table:
 
 
 @contextmanager
-def database_of(words: Sequence[str], given: Optional[bytes] = None, folder: Optional[str] = None) -> Iterator[sqlite3.Connection]:
+def database_of(
+    words: Sequence[str], given: Optional[Iterable[bytes]] = None, folder: Optional[str] = None
+) -> Iterator[sqlite3.Connection]:
     """The database that the program writes by these words, while it is read; its file lies in the folder, or where temporary ones
-    do. What is given is standard input."""
+    do. What is given, in pieces, is standard input."""
     with tempfile.TemporaryDirectory(dir=folder) as made:
         place = os.path.join(made, "table.db")
         with open(place, "wb") as into:

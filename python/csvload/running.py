@@ -1,10 +1,11 @@
 """Calls of the program: options as its words, and its refusals as an exception."""
 
+import contextlib
 import errno
 import os
 import platform
 import subprocess
-from collections.abc import Mapping, Sequence
+from collections.abc import Iterable, Mapping, Sequence
 from typing import BinaryIO, Optional, Union
 
 Option = Union[bool, int, str, Sequence[str], Mapping[str, str]]
@@ -72,17 +73,25 @@ def name_of(file: Union[str, os.PathLike[str]]) -> str:
     return f"./{name}" if name.startswith("-") and name != "-" else name
 
 
-def run(words: Sequence[str], given: Optional[bytes] = None, into: Union[int, BinaryIO] = subprocess.PIPE) -> bytes:
-    """Calls the program: what it wrote, unless that goes into a file. What is given is its standard input, else the caller's.
+def run(words: Sequence[str], given: Optional[Iterable[bytes]] = None, into: Union[int, BinaryIO] = subprocess.PIPE) -> bytes:
+    """Calls the program: what it wrote, unless that goes into a file. What is given, in pieces and only where what is written goes
+    into a file, is its standard input, else the caller's.
 
     Where the status isn't 0 that raises Refused, and where there is no program FileNotFoundError, which names the machine.
     """
     program = os.environ.get("CSVLOAD", "csvload")
     try:
-        done = subprocess.run([program, *words], input=given, stdout=into, stderr=subprocess.PIPE)
+        stdin = None if given is None else subprocess.PIPE
+        process = subprocess.Popen([program, *words], stdin=stdin, stdout=into, stderr=subprocess.PIPE)
     except FileNotFoundError:
         lack = f"there is no such program on {platform.node()}, neither on PATH nor where CSVLOAD says"
         raise FileNotFoundError(errno.ENOENT, lack, program) from None
-    if done.returncode:
-        raise Refused(done.returncode, done.stderr.decode("utf-8", "replace").strip())
-    return done.stdout or b""
+    with process:
+        # Where it doesn't read to the end its status says why.
+        with contextlib.suppress(BrokenPipeError):
+            for piece in given or ():
+                process.stdin.write(piece)
+        written, told = process.communicate()
+    if process.returncode:
+        raise Refused(process.returncode, told.decode("utf-8", "replace").strip())
+    return written or b""
