@@ -4,7 +4,7 @@
 //! come, so that a short text is written at once. A text of rows never stands whole in memory: its lines are made block by
 //! block, round by round, by workers that draw the blocks of the next round while this one is written in order. The buffers are
 //! used again; where one finds no memory, its rows are written straight. What writers of texts share stands here too: a text
-//! under way, whose values and runs are stored in room that was made ready before; runs of bytes, found by lanes; and writes
+//! under way, whose values and runs are stored in room that was made ready before; bytes that pass a test, found by lanes; and writes
 //! that want no memory.
 //! It serves the crates above alone.
 #![tactic(auto)]
@@ -22,6 +22,7 @@ mod rounds;
 mod row_lines;
 mod rowed;
 mod runs;
+mod search;
 mod spare;
 mod workers;
 mod writing;
@@ -30,6 +31,6 @@ pub use draft::{CELL_ROOM, Draft};
 pub use pieces::Pieces;
 pub use row_lines::RowLines;
 pub use rowed::RowedText;
-pub use runs::run_behind;
+pub use search::{Probe, first_where};
 pub use workers::Workers;
 pub use writing::{write_text, write_value};
