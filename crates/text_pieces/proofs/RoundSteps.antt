@@ -1,5 +1,5 @@
 -- The lines of rows that are written round by round.
-use Rattle.std.proofs.Common.{◌≡◌, ℕ, ◌+◌, ◌-◌, ◌≤◌, List, [], ◌++◌, length, drop, sym, ◌∙◌, ap, arith, take-append-drop}
+use Rattle.std.proofs.Common.{◌≡◌, ℕ, suc, ◌+◌, ◌-◌, ◌<◌, ◌≤◌, List, [], ◌∷◌, ◌++◌, length, take, drop, get_or, sym, ◌∙◌, ap, arith, drop-cons, take-append-drop}
 use Rattle.std.specs.Prelude.{slice_range}
 use Rattle.std.specs.List.{concat}
 use Rattle.std.proofs.lemmas.List.Folds.{concat-append}
@@ -10,6 +10,13 @@ module _ (lines : List (List ℕ)) where
   -- the lines of a round, split at a row
   pub round-split : (from mid to : ℕ) → from ≤ mid → mid ≤ to → concat (slice_range lines from to) ≡ concat (slice_range lines from mid) ++ concat (slice_range lines mid to)
   round-split from mid to low high = ap concat (sym (range-split lines from mid to low high)) ∙ concat-append (slice_range lines from mid) (slice_range lines mid to)
+
+  -- the first line, and those behind it
+  pub round-first : (from to : ℕ) → from < to → from < length lines → concat (slice_range lines from to) ≡ get_or lines from [] ++ concat (slice_range lines (from + 1) to)
+  round-first from to some within =
+      let count : to - from ≡ suc (to - (from + 1)) = omega arith in
+      let one : suc from ≡ from + 1 = omega arith in
+      ap concat ((λ i. take (count i) (drop-cons lines from [] within i)) ∙ ap (λ k. get_or lines from [] ∷ take (to - (from + 1)) (drop k lines)) one)
 
   pub round-over : (at to : ℕ) → at ≡ to → concat (slice_range lines at to) ≡ []
   round-over at to is = ap concat (range-none lines at to is)

@@ -1,9 +1,7 @@
 // Rows that have lines.
-ghost use Rattle.std.specs.Prelude.{◌≡◌, ◌≤◌, ◌++◌, ℕ, List, length, slice_range, OnErr, OnOk};
-ghost use Rattle.std.specs.Io.KnownBytes.{Appends};
+ghost use Rattle.std.specs.Prelude.{◌≡◌, ◌<◌, ◌≤◌, ◌++◌, ℕ, List, [], length, slice_index_or, slice_range, OnOk};
 ghost use Rattle.std.specs.List.{concat};
-ghost use Rattle.csv_source.specs.Causes.{HasCause};
-ghost use Rattle.csv_source.specs.Moves.{AppendsFront};
+ghost use Rattle.text_pieces.specs.Writes.{Writes};
 
 use crate::draft::Draft;
 use csv_source::{Failed, NoMemory, Sink};
@@ -26,12 +24,8 @@ pub trait RowLines {
         requires within { to ≤ length (lines self.now) }
         ensures ok { OnOk result (into.new.text ≡ into.old.text ++ concat (slice_range (lines self.now) from to)) };
 
-    /// Writes the lines of the rows from `from` to before `to` piece by piece, and wants no memory for it.
-    fn write<K: Sink>(&self, from: usize, to: usize, sink: &mut K) -> Result<(), Failed>
-        requires ordered { from ≤ to }
-        requires within { to ≤ length (lines self.now) }
-        ensures ok { OnOk result (Appends (K.taken sink.old) (K.taken sink.new) (concat (slice_range (lines self.now) from to))) }
-        // Whatever the answer, the sink has taken a front of the lines.
-        ensures front { AppendsFront (K.taken sink.old) (K.taken sink.new) (concat (slice_range (lines self.now) from to)) }
-        ensures cause { HasCause (K.faults sink.old) (K.faults sink.new) result };
+    /// Writes the line of a row piece by piece, and wants no memory for it.
+    fn write_line<K: Sink>(&self, row: usize, sink: &mut K) -> Result<(), Failed>
+        requires within { row < length (lines self.now) }
+        ensures { Writes (K.taken sink.old) (K.taken sink.new) (K.faults sink.old) (K.faults sink.new) result (slice_index_or (lines self.now) row []) };
 }

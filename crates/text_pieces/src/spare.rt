@@ -82,10 +82,13 @@ impl Spare {
         let mut at = from;
         while at < to {
             let end = self.make(rows, at, to);
-            write_text(sink, self.text.as_slice())?;
-            let next = end.max(at + 1);
-            rows.write(end, next, sink)?;
-            at = next;
+            if end > at {
+                write_text(sink, self.text.as_slice())?;
+                at = end;
+                continue;
+            }
+            rows.write_line(at, sink)?;
+            at += 1;
         }
         Ok(())
     }
