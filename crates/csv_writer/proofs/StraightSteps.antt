@@ -4,14 +4,10 @@ use Rattle.std.specs.Prelude.{slice_get, slice_range}
 use Rattle.std.specs.List.{join_with_byte}
 use Rattle.std.proofs.lemmas.Bool.{cases_lt, eq-eqb, ne_eqb}
 use Rattle.std.proofs.lemmas.List.{drop_all}
-use Rattle.value_types.specs.Datum.{Datum}
-use Rattle.column_store.specs.ChunkView.{ChunkView}
-use Rattle.column_store.specs.Stacked.{rows_in}
 use Rattle.csv_writer.specs.Quoting.{doubled, quote_at, quote_free}
 use Rattle.csv_writer.specs.Steps.{comma_before}
 use Rattle.csv_writer.proofs.Doubling.{quote_doubled, run_doubled, run_stops}
-use Rattle.csv_writer.specs.WrittenTable.{row_lines}
-use Rattle.csv_writer.proofs.Lines.{comma_some, part_appended}
+use Rattle.csv_writer.proofs.Lines.{comma_some}
 
 -- ---- texts
 
@@ -85,21 +81,3 @@ quote-at end text inside = ap (λ t. cond t [] (34 ∷ 34 ∷ [])) (sym (ne_eqb 
 -- a comma stands before each field but the first
 pub comma-at : (column : ℕ) → (column ≡ 0 → ⊥) → 44 ∷ [] ≡ comma_before column
 comma-at column behind = ap (λ t. cond t [] (44 ∷ [])) (sym (ne_eqb column 0 behind))
-
--- ---- rows
-
--- the lines of a chunk's part, and those of the rows behind it
-pub part-left : (rows more : List (List Datum)) (low high low' high' : ℕ) → low ≤ high → low' ≡ low - length rows → high' ≡ high - length rows →
-    row_lines (slice_range (rows ++ more) low high) ≡ row_lines (slice_range rows low high) ++ row_lines (slice_range more low' high')
-part-left rows more low high low' high' ordered less_low less_high =
-    sym (part_appended rows more low high low' high' [] (row_lines (slice_range rows low high)) ordered less_low less_high refl)
-
--- the same of the chunk at a place
-pub chunk-left : (chunks : List ChunkView) (last : List (List Datum)) (at : ℕ) (chunk : ChunkView) (low high low' high' : ℕ) → at < length chunks → chunk ≡ get_or chunks at chunk → low ≤ high →
-    low' ≡ low - length chunk.rows → high' ≡ high - length chunk.rows →
-    row_lines (slice_range (rows_in (drop at chunks) ++ last) low high) ≡ row_lines (slice_range chunk.rows low high) ++ row_lines (slice_range (rows_in (drop (at + 1) chunks) ++ last) low' high')
-chunk-left chunks last at chunk low high low' high' within is ordered less_low less_high =
-    let one : suc at ≡ at + 1 = omega arith in
-    ap (λ cs. row_lines (slice_range (rows_in cs ++ last) low high)) (drop-cons chunks at chunk within ∙ ap (λ x. x ∷ drop (suc at) chunks) (sym is) ∙ ap (λ n. chunk ∷ drop n chunks) one)
-    ∙ ap (λ rows. row_lines (slice_range rows low high)) (append_assoc chunk.rows (rows_in (drop (at + 1) chunks)) last)
-    ∙ part-left chunk.rows (rows_in (drop (at + 1) chunks) ++ last) low high low' high' ordered less_low less_high

@@ -1,8 +1,8 @@
 // Rows that are written straight to a sink, with no memory.
-ghost use Rattle.std.specs.Prelude.{◌≡◌, ◌<◌, ◌≤◌, [], length, slice_index_or, slice_range, All};
+ghost use Rattle.std.specs.Prelude.{◌≡◌, ◌<◌, [], length, slice_index_or, All};
 ghost use Rattle.text_pieces.specs.Writes.{Writes};
 ghost use Rattle.csv_writer.specs.Writable.{IsWritableRow};
-ghost use Rattle.csv_writer.specs.WrittenTable.{row_line, row_lines};
+ghost use Rattle.csv_writer.specs.WrittenTable.{row_line};
 
 use crate::straight::write_field;
 use column_store::{Chunk, Table};
@@ -22,39 +22,30 @@ fn write_row<K: Sink>(sink: &mut K, chunk: &Chunk, row: usize) -> Result<(), Fai
     write_text(sink, b"\n")
 }
 
-/// Writes the lines of those rows from `from` to before `to` that a chunk has.
-fn write_part<K: Sink>(sink: &mut K, chunk: &Chunk, from: usize, to: usize) -> Result<(), Failed>
-    requires ordered { from ≤ to }
-    requires writable { All IsWritableRow chunk.now.rows }
-    ensures { Writes (K.taken sink.old) (K.taken sink.new) (K.faults sink.old) (K.faults sink.new) result (row_lines (slice_range chunk.now.rows from to)) }
-{
-    chunk.rows_are_full();
-    let rows = chunk.rows();
-    let last = to.min(rows);
-    for row in from.min(rows)..last {
-        write_row(sink, chunk, row)?;
-    }
-    Ok(())
-}
-
-/// Writes the lines of the rows from `from` to before `to`, chunk by chunk.
-pub(crate) fn write_straight<K: Sink>(
-    sink: &mut K,
-    table: &Table,
-    from: usize,
-    to: usize,
-) -> Result<(), Failed>
-    requires ordered { from ≤ to }
-    requires writable { All IsWritableRow table.now.rows }
-    ensures { Writes (K.taken sink.old) (K.taken sink.new) (K.faults sink.old) (K.faults sink.new) result (row_lines (slice_range table.now.rows from to)) }
+/// The chunk that has a row, and the row's place there.
+fn chunk_with(table: &Table, row: usize) -> (&Chunk, usize)
+    requires within { row < length table.now.rows }
+    ensures within { result.1 < length result.0.now.rows }
+    ensures same { slice_index_or result.0.now.rows result.1 [] ≡ slice_index_or table.now.rows row [] }
 {
     let (earlier, last) = table.chunks();
-    let mut low = from;
-    let mut high = to;
+    let mut place = row;
     for chunk in earlier {
-        write_part(sink, chunk, low, high)?;
-        low = low.saturating_sub(chunk.rows());
-        high = high.saturating_sub(chunk.rows());
+        if place < chunk.rows() {
+            return (chunk, place);
+        }
+        place -= chunk.rows();
     }
-    write_part(sink, last, low, high)
+    (last, place)
+}
+
+/// Writes the line of a row, whose chunk is sought.
+pub(crate) fn write_line<K: Sink>(sink: &mut K, table: &Table, row: usize) -> Result<(), Failed>
+    requires within { row < length table.now.rows }
+    requires writable { All IsWritableRow table.now.rows }
+    ensures { Writes (K.taken sink.old) (K.taken sink.new) (K.faults sink.old) (K.faults sink.new) result (row_line (slice_index_or table.now.rows row [])) }
+{
+    let (chunk, place) = chunk_with(table, row);
+    chunk.rows_are_full();
+    write_row(sink, chunk, place)
 }

@@ -3,7 +3,7 @@ ghost use Rattle.std.specs.Prelude.{◌≡◌, All};
 ghost use Rattle.csv_writer.specs.Writable.{IsWritableRow};
 
 use crate::rows::{rows_room, write_rows};
-use crate::straight_rows::write_straight;
+use crate::straight_rows::write_line;
 use column_store::Table;
 use csv_source::{Failed, NoMemory, Sink};
 use std::marker::Model;
@@ -55,7 +55,7 @@ impl RowLines for TableRows {
         write_rows(&self.table, from, to, into)
     }
 
-    fn write<K: Sink>(&self, from: usize, to: usize, sink: &mut K) -> Result<(), Failed> {
-        write_straight(sink, &self.table, from, to)
+    fn write_line<K: Sink>(&self, row: usize, sink: &mut K) -> Result<(), Failed> {
+        write_line(sink, &self.table, row)
     }
 }

@@ -1,0 +1,43 @@
+use Rattle.std.proofs.Common.{◌≡◌, ◌<◌, ◌+◌, ◌++◌, List, ℕ, [], length, drop, get_or, ap, sym, ◌∙◌, subst, arith}
+use Rattle.std.proofs.lemmas.List.{get_or_append_left, length-append}
+use Rattle.std.proofs.Math.Seq.{get_or-append_right}
+use Rattle.value_types.specs.Datum.{Datum}
+use Rattle.column_store.specs.ChunkView.{ChunkView}
+use Rattle.column_store.specs.Stacked.{rows_in}
+use Rattle.csv_writer.proofs.WritableRows.{rows-ahead}
+use Rattle.csv_writer.proofs.straight_rows.chunk_with.Goals as goal
+
+pub loop-chunk-init : goal.loop-chunk-init
+loop-chunk-init c = record {
+  within = subst (λ (rows : List (List Datum)). c.args.row < length rows) c.chunks.ensures.rows c.requires.within;
+  same = ap (λ (rows : List (List Datum)). get_or rows c.args.row []) (sym c.chunks.ensures.rows);
+}
+
+pub returns-then-place-rows-clause-same : goal.returns-then-place-rows-clause-same
+returns-then-place-rows-clause-same c =
+    let chunks : List ChunkView = c.chunks.result.0.now in
+    let last : List (List Datum) = c.chunks.result.1.now.rows in
+    let at : ℕ = c.loop-chunk.chunk-index in
+    let chunk : ChunkView = c.chunk-item.result in
+    let place : ℕ = c.loop-chunk.place in
+    sym (get_or_append_left chunk.rows (rows_in (drop (at + 1) chunks) ++ last) [] place (omega arith))
+    ∙ ap (λ (rows : List (List Datum)). get_or rows place []) (sym (rows-ahead chunks last at chunk c.loop-chunk-test.true c.chunk-item.is))
+    ∙ c.loop-chunk.invariant.same
+
+pub loop-chunk-preserved : goal.loop-chunk-preserved
+loop-chunk-preserved c =
+    let chunks : List ChunkView = c.chunks.result.0.now in
+    let last : List (List Datum) = c.chunks.result.1.now.rows in
+    let at : ℕ = c.loop-chunk.chunk-index in
+    let chunk : ChunkView = c.chunk-item.result in
+    let place : ℕ = c.loop-chunk.place in
+    let rest : List (List Datum) = rows_in (drop (at + 1) chunks) ++ last in
+    let ahead = rows-ahead chunks last at chunk c.loop-chunk-test.true c.chunk-item.is in
+    let whole : place < length (chunk.rows ++ rest) = subst (λ (rows : List (List Datum)). place < length rows) ahead c.loop-chunk.invariant.within in
+    record {
+      within = omega (arith, whole, length-append chunk.rows rest);
+      same =
+          sym (get_or-append_right chunk.rows rest place [] (omega arith))
+          ∙ ap (λ (rows : List (List Datum)). get_or rows place []) (sym ahead)
+          ∙ c.loop-chunk.invariant.same;
+    }
