@@ -4,7 +4,6 @@ pub mod RunTexts
 pub mod Texts
 pub mod ReportTexts
 pub mod RowCells
-pub mod RowTexts
 pub mod SplitParts
 pub mod TwoDigits
 mod Worked

@@ -4,7 +4,7 @@ ghost use Rattle.report_text.specs.Lines.{row_line};
 ghost use Rattle.report_text.specs.PrintableRows.{IsPrintableRow};
 
 use crate::rows::{push_rows, rows_room};
-use crate::straight::write_rows;
+use crate::straight::write_row;
 use column_store::Table;
 use csv_source::{Failed, NoMemory, Sink};
 use std::marker::Model;
@@ -53,7 +53,7 @@ impl RowLines for ReportRows {
         push_rows(into, &self.table, from, to)
     }
 
-    fn write<K: Sink>(&self, from: usize, to: usize, sink: &mut K) -> Result<(), Failed> {
-        write_rows(sink, &self.table, from, to)
+    fn write_line<K: Sink>(&self, row: usize, sink: &mut K) -> Result<(), Failed> {
+        write_row(sink, &self.table, row)
     }
 }

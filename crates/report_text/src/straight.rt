@@ -1,5 +1,5 @@
 // The lines of rows, written straight to a sink with no memory.
-ghost use Rattle.std.specs.Prelude.{◌<◌, ◌≤◌, [], flat_map, length, slice_index_or, slice_range, All};
+ghost use Rattle.std.specs.Prelude.{◌<◌, [], length, slice_index_or};
 ghost use Rattle.value_types.specs.Datum.{datum_of};
 ghost use Rattle.value_types.specs.Spelled.{IsSpelledCell};
 ghost use Rattle.text_pieces.specs.Writes.{Writes};
@@ -24,8 +24,8 @@ fn write_cell<K: Sink>(sink: &mut K, cell: Cell<'_>) -> Result<(), Failed>
     }
 }
 
-/// Writes the line of a row.
-fn write_row<K: Sink>(sink: &mut K, table: &Table, row: usize) -> Result<(), Failed>
+/// Writes the line of a row. It is slower than to append it to a text, and for a row alone for which there is no memory.
+pub(crate) fn write_row<K: Sink>(sink: &mut K, table: &Table, row: usize) -> Result<(), Failed>
     requires within { row < length table.now.rows }
     requires fits { IsPrintableRow table.now.types (slice_index_or table.now.rows row []) }
     ensures { Writes (K.taken sink.old) (K.taken sink.new) (K.faults sink.old) (K.faults sink.new) result (row_line (slice_index_or table.now.rows row [])) }
@@ -36,23 +36,4 @@ fn write_row<K: Sink>(sink: &mut K, table: &Table, row: usize) -> Result<(), Fai
         write_cell(sink, table.cell_at(column, row))?;
     }
     write_text(sink, b"\n")
-}
-
-/// Writes the lines of the rows from `from` to before `to`. It is slower than to append them to a text, and for rows alone for
-/// which there is no memory.
-pub(crate) fn write_rows<K: Sink>(
-    sink: &mut K,
-    table: &Table,
-    from: usize,
-    to: usize,
-) -> Result<(), Failed>
-    requires ordered { from ≤ to }
-    requires within { to ≤ length table.now.rows }
-    requires fits { All (IsPrintableRow table.now.types) table.now.rows }
-    ensures { Writes (K.taken sink.old) (K.taken sink.new) (K.faults sink.old) (K.faults sink.new) result (flat_map row_line (slice_range table.now.rows from to)) }
-{
-    for row in from..to {
-        write_row(sink, table, row)?;
-    }
-    Ok(())
 }

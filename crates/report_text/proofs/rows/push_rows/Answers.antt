@@ -6,7 +6,7 @@ use Rattle.column_store.specs.Stacked.{rows_in}
 use Rattle.report_text.specs.Lines.{row_line}
 use Rattle.report_text.specs.PrintableRows.{IsPrintableRow}
 use Rattle.report_text.proofs.Chunks.{All-front, All-back, chunk_at, printable_chunks}
-use Rattle.report_text.proofs.RowTexts.{part_appended}
+use Rattle.text_pieces.proofs.RowTexts.{part_appended}
 use Rattle.report_text.proofs.rows.push_rows.Goals as goal
 
 pub push_part-requires-clause-fits : goal.push_part-requires-clause-fits
@@ -32,7 +32,7 @@ loop-chunk-preserved c =
     record {
       ordered = omega (arith, c.saturating_sub-low.ensures, c.saturating_sub-high.ensures, c.rows.ensures, c.rows-in-loop-chunk.ensures, c.loop-chunk.invariant.ordered);
       text =
-          part_appended chunk.rows rest c.loop-chunk.low c.loop-chunk.high c.saturating_sub-low.result c.saturating_sub-high.result into c.push_part.new.into.text c.loop-chunk.invariant.ordered
+          part_appended row_line chunk.rows rest c.loop-chunk.low c.loop-chunk.high c.saturating_sub-low.result c.saturating_sub-high.result into c.push_part.new.into.text c.loop-chunk.invariant.ordered
           (omega (arith, c.saturating_sub-low.ensures, c.rows.ensures)) (omega (arith, c.saturating_sub-high.ensures, c.rows-in-loop-chunk.ensures)) c.in_ok-push_part.ensures
           ∙ ap (λ rs. into ++ flat_map row_line (slice_range rs c.loop-chunk.low c.loop-chunk.high)) (sym left)
           ∙ c.loop-chunk.invariant.text;

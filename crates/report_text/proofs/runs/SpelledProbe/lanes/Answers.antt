@@ -1,10 +1,10 @@
-use Rattle.std.proofs.Common.{◌≡◌, ℕ, List, map, ◌∙◌, ap, ap₂}
+use Rattle.std.proofs.Common.{◌≡◌, ℕ, List, map, ◌∙◌, ap₂}
 use Rattle.std.specs.Prelude.{◌==◌, ◌||◌, nat_lt}
 use lib.Bits.{bit_or}
 use lib.Lanes.{mask_l}
 use Rattle.report_text.specs.Ordinary.{is_spelled}
 use Rattle.byte_classes.proofs.LaneLaws.{or_mask}
-use Rattle.report_text.proofs.runs.spelled_in.Goals as goal
+use Rattle.report_text.proofs.runs.SpelledProbe.lanes.Goals as goal
 
 -- the four comparisons together
 joined : (q r s t : ℕ) (lanes : List ℕ) → q ≡ mask_l (map (λ x. x == 92) lanes) → r ≡ mask_l (map (λ x. x == 124) lanes) → s ≡ mask_l (map (λ x. x == 127) lanes)
@@ -16,6 +16,4 @@ joined q r s t lanes first second third fourth =
     ∙ or_mask (λ x. (x == 92 || x == 124) || x == 127) (λ x. nat_lt x 32) lanes
 
 pub returns : goal.returns
-returns c =
-    joined _ _ _ _ c.lanes_at-lanes.result c.equal_to.ensures c.equal_to-2.ensures c.equal_to-3.ensures c.below.ensures
-    ∙ ap (λ xs. mask_l (map is_spelled xs)) c.lanes_at-lanes.ensures.value
+returns c = joined _ _ _ _ c.args.lanes c.equal_to.ensures c.equal_to-2.ensures c.equal_to-3.ensures c.below.ensures
