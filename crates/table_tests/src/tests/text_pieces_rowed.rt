@@ -35,8 +35,8 @@ impl RowLines for Letters {
         into.append(&self.letters[from..to])
     }
 
-    fn write<K: Sink>(&self, from: usize, to: usize, sink: &mut K) -> Result<(), Failed> {
-        write_text(sink, &self.letters[from..to])
+    fn write_line<K: Sink>(&self, row: usize, sink: &mut K) -> Result<(), Failed> {
+        write_text(sink, &self.letters[row..row + 1])
     }
 }
 
