@@ -12,6 +12,12 @@ use value_types::{Value, put_value};
 /// So many bytes hold a mark before a value, the value, and what is written over behind it.
 pub const CELL_ROOM: usize = 33;
 
+/// A short run is stored with what stands behind it, so many bytes in all: one store of a register.
+const SHORT_RUN: usize = 16;
+
+/// So many bytes of a longer text.
+const LONG_RUN: usize = 64;
+
 /// A text that grows by short pieces. They are stored over bytes that were made ready before, many at once: a piece that finds
 /// room takes a store, and no call.
 #[derive(Drop)]
@@ -180,7 +186,7 @@ impl Draft {
         self.append_front(&bytes[from..from + width], end - from)
     }
 
-    /// Appends the bytes between two places, or nothing. 16 bytes are stored at once.
+    /// Appends the bytes between two places, or nothing.
     #[inline(always)]
     pub fn append_run(&mut self, bytes: &[u8], from: usize, end: usize) -> Result<(), NoMemory>
         requires ordered { from ≤ end }
@@ -188,18 +194,18 @@ impl Draft {
         ensures ok { OnOk result (self.new.text ≡ self.old.text ++ slice_range bytes.now from end) }
         ensures err { OnErr result (self.new.text ≡ self.old.text) }
     {
-        self.append_by(bytes, from, end, 16)
+        self.append_by(bytes, from, end, SHORT_RUN)
     }
 
-    /// Appends another text, or nothing. 16 bytes are stored at once, or 64.
+    /// Appends another text, or nothing.
     #[inline(always)]
     pub fn append_draft(&mut self, other: &Draft) -> Result<(), NoMemory>
         ensures ok { OnOk result (self.new.text ≡ self.old.text ++ other.now.text) }
         ensures err { OnErr result (self.new.text ≡ self.old.text) }
     {
-        if other.end <= 16 {
-            return self.append_by(&other.bytes, 0, other.end, 16);
+        if other.end <= SHORT_RUN {
+            return self.append_by(&other.bytes, 0, other.end, SHORT_RUN);
         }
-        self.append_by(&other.bytes, 0, other.end, 64)
+        self.append_by(&other.bytes, 0, other.end, LONG_RUN)
     }
 }

@@ -11,7 +11,7 @@ returns-in_err-write_text g c =
     let lines = g.T.RowLines.lines c.args.rows.now in
     let end : ℕ = c.make-end.result in
     let made : concat (slice_range lines c.loop-at.at end) ≡ c.as_slice.result.now = sym (c.as_slice.ensures ∙ c.make-end.ensures.text) in
-    told_on {xs = c.as_slice.result.now} c.from_residual.result _ (concat (slice_range lines end c.args.to)) c.from_residual.ensures.0 c.loop-at.invariant.text
+    told_on {whole = concat (slice_range lines c.args.from c.args.to)} {xs = c.as_slice.result.now} c.from_residual.result _ (concat (slice_range lines end c.args.to)) c.from_residual.ensures.0 c.loop-at.invariant.text
     (round-split lines c.loop-at.at end c.args.to c.make-end.ensures.ordered c.make-end.ensures.within ∙ ap (λ text. text ++ concat (slice_range lines end c.args.to)) made) c.in_err-write_text.ensures
 
 pub loop-at-preserved-then-end-at : goal.loop-at-preserved-then-end-at
@@ -22,7 +22,7 @@ loop-at-preserved-then-end-at g c =
     record {
       after = omega (arith, c.make-end.ensures.ordered, c.loop-at.invariant.after);
       within = c.make-end.ensures.within;
-      text = more_written {xs = c.as_slice.result.now} _ (concat (slice_range lines end c.args.to)) c.loop-at.invariant.text
+      text = more_written {whole = concat (slice_range lines c.args.from c.args.to)} {xs = c.as_slice.result.now} _ (concat (slice_range lines end c.args.to)) c.loop-at.invariant.text
           (round-split lines c.loop-at.at end c.args.to c.make-end.ensures.ordered c.make-end.ensures.within ∙ ap (λ text. text ++ concat (slice_range lines end c.args.to)) made) c.in_ok-write_text.ensures;
     }
 
@@ -30,7 +30,7 @@ pub returns-in_err-write_line : goal.returns-in_err-write_line
 returns-in_err-write_line g c =
     let lines = g.T.RowLines.lines c.args.rows.now in
     let at : ℕ = c.loop-at.at in
-    told_on c.from_residual-in_err-write_line.result _ (concat (slice_range lines (at + 1) c.args.to)) c.from_residual-in_err-write_line.ensures.0 c.loop-at.invariant.text
+    told_on {whole = concat (slice_range lines c.args.from c.args.to)} c.from_residual-in_err-write_line.result _ (concat (slice_range lines (at + 1) c.args.to)) c.from_residual-in_err-write_line.ensures.0 c.loop-at.invariant.text
     (round-first lines at c.args.to c.loop-at-test.true (omega (arith, c.loop-at-test.true, c.requires.within))) c.in_err-write_line.ensures
 
 pub loop-at-preserved : goal.loop-at-preserved
@@ -40,7 +40,7 @@ loop-at-preserved g c =
     record {
       after = omega (arith, c.loop-at.invariant.after);
       within = omega (arith, c.loop-at-test.true);
-      text = more_written _ (concat (slice_range lines (at + 1) c.args.to)) c.loop-at.invariant.text
+      text = more_written {whole = concat (slice_range lines c.args.from c.args.to)} _ (concat (slice_range lines (at + 1) c.args.to)) c.loop-at.invariant.text
           (round-first lines at c.args.to c.loop-at-test.true (omega (arith, c.loop-at-test.true, c.requires.within))) c.in_ok-write_line.ensures;
     }
 
