@@ -3,7 +3,7 @@ use Rattle.std.specs.Prelude.{ℕ, List, ◌++◌, map, flat_map}
 use Rattle.csv_writer.specs.WrittenTable.{line_of_fields, names_line, text_field}
 use Rattle.reject_book.specs.declared.reject.Reject.{Reject}
 use Rattle.reject_book.specs.Fields.{field_names, fields_of}
-use Rattle.reject_writer.specs.WrittenField.{plain_field}
+use Rattle.csv_writer.specs.WrittenField.{plain_field}
 
 -- the fields of a reject, numbers in decimal digits and bytes as they are
 abbrev pub reject_fields : Reject → List (List ℕ)

@@ -1,10 +1,13 @@
-// The text of stored rejects.
+// Rejects as CSV text, for a program that reads CSV. The fields are those of an error line of the report, but that bytes stand as
+// they are: a text stands between quotes where a text of a table does, and a number never.
 ghost use Rattle.std.specs.Prelude.{◌≡◌, ◌++◌, flat_map, IfOk, OnOk};
-ghost use Rattle.csv_writer.specs.WrittenTable.{names_line};
 ghost use Rattle.reject_book.specs.Fields.{field_names};
-ghost use Rattle.reject_writer.specs.WrittenRejects.{reject_line, written_rejects};
+ghost use Rattle.csv_writer.specs.WrittenRejects.{reject_line, written_rejects};
+ghost use Rattle.csv_writer.specs.WrittenTable.{names_line};
 
-use crate::fields::push_line;
+mod line;
+
+use crate::rejects::line::push_line;
 use csv_source::NoMemory;
 use reject_book::{Book, Reject, RejectField};
 use std::alloc::Global;

@@ -17,7 +17,7 @@ use Rattle.load_crew.specs.Groups.{shared_groups, group_of, groups_read, groups_
 use Rattle.csv_source.specs.Line.{line_of}
 use Rattle.csv_source.specs.Shown.{shown}
 use Rattle.report_text.specs.Lines.{error_line}
-use Rattle.reject_writer.specs.WrittenRejects.{reject_fields}
+use Rattle.csv_writer.specs.WrittenRejects.{reject_fields}
 use Rattle.csv_sniffer.specs.declared.found.Sniffed.{Sniffed}
 use Rattle.csv_sniffer.specs.Input.{found, data_place, place_under}
 use Rattle.csv_sniffer.specs.Pairs.{parts_pair}

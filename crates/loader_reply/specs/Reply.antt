@@ -29,7 +29,7 @@ use Rattle.report_text.specs.declared.outcome.Outcome.{Outcome}
 use Rattle.report_text.specs.declared.outcome.Outcome.TheVariants as outcomes
 use Rattle.report_text.specs.declared.outcome.Stats.{Stats}
 use Rattle.csv_writer.specs.WrittenTable.{written_table}
-use Rattle.reject_writer.specs.WrittenRejects.{written_rejects}
+use Rattle.csv_writer.specs.WrittenRejects.{written_rejects}
 use Rattle.db_writer.specs.Database.{database}
 use Rattle.loader_reply.specs.Batch.{batch_refusal, found_in_first, load_of, names_of}
 use Rattle.loader_reply.specs.Databases.{stored_files}

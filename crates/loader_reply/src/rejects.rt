@@ -8,8 +8,8 @@ use crate::reply::Reply;
 use crate::reply_text::ReplyText;
 use csv_sniffer::Sniffed;
 use csv_source::NoMemory;
+use csv_writer::write_rejects;
 use file_list::Batch;
-use reject_writer::write_rejects;
 use report_text::all_in;
 
 impl<'a, R, G> Loader<'a, R, G> {

@@ -1,10 +1,10 @@
-// The fields of a line.
+// The line of a reject.
 ghost use Rattle.std.specs.Prelude.{◌≡◌, ◌++◌, map, OnOk};
 ghost use Rattle.csv_writer.specs.WrittenTable.{line_of_fields};
-ghost use Rattle.reject_writer.specs.WrittenField.{written_field};
+ghost use Rattle.csv_writer.specs.WrittenField.{written_field};
 
+use crate::fields::{push_comma, push_text};
 use csv_source::NoMemory;
-use csv_writer::{push_comma, push_text};
 use reject_book::RejectField;
 use text_pieces::Draft;
 

@@ -4,9 +4,9 @@ use Rattle.std.proofs.lemmas.Simd.{map-map}
 use Rattle.csv_writer.specs.WrittenTable.{line_of_fields, text_field}
 use Rattle.reject_book.specs.declared.fields.RejectField.{RejectField}
 use Rattle.reject_book.specs.Fields.{field_of}
-use Rattle.reject_writer.specs.WrittenField.{plain_field, written_field}
-use Rattle.reject_writer.specs.WrittenRejects.{reject_fields}
-use Rattle.reject_writer.proofs.text.push_reject.Goals as goal
+use Rattle.csv_writer.specs.WrittenField.{plain_field, written_field}
+use Rattle.csv_writer.specs.WrittenRejects.{reject_fields}
+use Rattle.csv_writer.proofs.rejects.push_reject.Goals as goal
 
 pub returns : goal.returns
 returns c =

@@ -1,8 +1,8 @@
 use Rattle.std.proofs.Common.{◌≡◌, ◌+◌, ℕ, zero, suc, List, [], ◌∷◌, ◌++◌, Some, take, ap, sym, ◌∙◌, append_assoc, append-nil, arith}
 use Rattle.std.specs.Prelude.{flat_map, slice_get}
 use Rattle.reject_book.specs.declared.reject.Reject.{Reject}
-use Rattle.reject_writer.specs.WrittenRejects.{reject_line}
-use Rattle.reject_writer.proofs.text.push_stored.Goals as goal
+use Rattle.csv_writer.specs.WrittenRejects.{reject_line}
+use Rattle.csv_writer.proofs.rejects.push_stored.Goals as goal
 
 one_more : (rejects : List Reject) (k : ℕ) (r : Reject) → slice_get rejects k ≡ Some r → flat_map reject_line (take (suc k) rejects) ≡ flat_map reject_line (take k rejects) ++ reject_line r
 one_more [] k r at = absurd (let none : ⊥ = cc in none)

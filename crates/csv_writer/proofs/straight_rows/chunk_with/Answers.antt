@@ -1,5 +1,5 @@
-use Rattle.std.proofs.Common.{◌≡◌, ◌<◌, ◌+◌, ◌++◌, List, ℕ, [], length, drop, get_or, ap, sym, ◌∙◌, subst, arith}
-use Rattle.std.proofs.lemmas.List.{get_or_append_left, length-append}
+use Rattle.std.proofs.Common.{◌≡◌, ◌<◌, ◌≤◌, ◌+◌, ◌++◌, List, ℕ, [], length, drop, get_or, ap, sym, ◌∙◌, subst, arith}
+use Rattle.std.proofs.lemmas.List.{drop_all, get_or_append_left, length-append}
 use Rattle.std.proofs.Math.Seq.{get_or-append_right}
 use Rattle.value_types.specs.Datum.{Datum}
 use Rattle.column_store.specs.ChunkView.{ChunkView}
@@ -41,3 +41,17 @@ loop-chunk-preserved c =
           ∙ ap (λ (rows : List (List Datum)). get_or rows place []) (sym ahead)
           ∙ c.loop-chunk.invariant.same;
     }
+
+-- behind the last of the earlier chunks
+gone : (chunks : List ChunkView) (last : List (List Datum)) (at : ℕ) → length chunks ≤ at → rows_in (drop at chunks) ++ last ≡ last
+gone chunks last at past = ap (λ cs. rows_in cs ++ last) (drop_all at chunks past)
+
+pub returns-clause-within : goal.returns-clause-within
+returns-clause-within c =
+    subst (λ (rows : List (List Datum)). c.loop-chunk.place < length rows)
+    (gone c.chunks.result.0.now c.chunks.result.1.now.rows c.loop-chunk.chunk-index (omega (arith, c.loop-chunk-test.false))) c.loop-chunk.invariant.within
+
+pub returns-clause-same : goal.returns-clause-same
+returns-clause-same c =
+    ap (λ (rows : List (List Datum)). get_or rows c.loop-chunk.place [])
+    (sym (gone c.chunks.result.0.now c.chunks.result.1.now.rows c.loop-chunk.chunk-index (omega (arith, c.loop-chunk-test.false)))) ∙ c.loop-chunk.invariant.same

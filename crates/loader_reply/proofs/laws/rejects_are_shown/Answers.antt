@@ -1,7 +1,7 @@
 use Rattle.std.proofs.Common.{[], ◌∷◌, codes, sym}
 use Rattle.csv_source.specs.Line.{line_of}
 use Rattle.csv_source.specs.Shown.{shown}
-use Rattle.reject_writer.proofs.Bare.{shown_kind, shown_number}
+use Rattle.csv_writer.proofs.Bare.{shown_kind, shown_number}
 use Rattle.loader_reply.proofs.laws.rejects_are_shown.Goals as goal
 
 pub returns : goal.returns

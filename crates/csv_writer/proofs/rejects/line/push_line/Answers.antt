@@ -4,8 +4,8 @@ use Rattle.csv_writer.proofs.Lines.{field_appended}
 use Rattle.std.proofs.lemmas.Option.{slice_get-get_or}
 use Rattle.reject_book.specs.declared.fields.RejectField.{RejectField}
 use Rattle.reject_book.specs.declared.fields.RejectField.TheVariants.{Number}
-use Rattle.reject_writer.specs.WrittenField.{written_field}
-use Rattle.reject_writer.proofs.fields.push_line.Goals as goal
+use Rattle.csv_writer.specs.WrittenField.{written_field}
+use Rattle.csv_writer.proofs.rejects.line.push_line.Goals as goal
 
 pub loop-column-preserved : goal.loop-column-preserved
 loop-column-preserved c =

@@ -3,7 +3,7 @@ use Rattle.std.specs.Prelude.{option_map, slice_get}
 use Rattle.load_options.specs.declared.options.Options.{Options}
 use Rattle.reject_book.specs.BookView.{BookView}
 use Rattle.file_list.specs.declared.batch.FileBook.{FileBook}
-use Rattle.reject_writer.specs.WrittenRejects.{written_rejects}
+use Rattle.csv_writer.specs.WrittenRejects.{written_rejects}
 use Rattle.loader_reply.specs.Reply.{first_file, reply}
 use Rattle.loader_reply.specs.declared.ending.Ending.TheVariants as endings
 use Rattle.loader_reply.proofs.loader.Loader.rejects_reply.Goals as goal
