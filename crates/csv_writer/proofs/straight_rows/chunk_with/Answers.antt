@@ -1,4 +1,4 @@
-use Rattle.std.proofs.Common.{◌≡◌, ◌<◌, ◌≤◌, ◌+◌, ◌++◌, List, ℕ, [], length, drop, get_or, ap, sym, ◌∙◌, subst, arith}
+use Rattle.std.proofs.Common.{◌≡◌, ◌<◌, ◌≤◌, ◌+◌, ◌-◌, ◌++◌, List, ℕ, [], length, drop, get_or, ap, sym, ◌∙◌, subst, arith}
 use Rattle.std.proofs.lemmas.List.{drop_all, get_or_append_left, length-append}
 use Rattle.std.proofs.Math.Seq.{get_or-append_right}
 use Rattle.value_types.specs.Datum.{Datum}
@@ -37,7 +37,8 @@ loop-chunk-preserved c =
     record {
       within = omega (arith, whole, length-append chunk.rows rest);
       same =
-          sym (get_or-append_right chunk.rows rest place [] (omega arith))
+          ap (λ n. get_or rest (place - n) []) c.rows-place.ensures
+          ∙ sym (get_or-append_right chunk.rows rest place [] (omega arith))
           ∙ ap (λ (rows : List (List Datum)). get_or rows place []) (sym ahead)
           ∙ c.loop-chunk.invariant.same;
     }
