@@ -12,6 +12,7 @@ mod conflict;
 mod content;
 mod given;
 mod kept_text;
+mod long_part;
 mod pasted;
 mod read_fault;
 mod reading_words;
@@ -27,6 +28,7 @@ pub use given::{
     word_giving,
 };
 pub use kept_text::KeptText;
+pub use long_part::push_long_part;
 pub use pasted::{most_kept, push_pasted};
 pub use read_fault::push_read_fault;
 pub use reading_words::{WordsFault, read_words};

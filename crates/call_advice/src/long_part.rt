@@ -1,6 +1,5 @@
 // What is said of a part of a file that is longer than a load reads.
-use crate::message::Run;
-use call_advice::{command_word, subject};
+use crate::given::{command_word, subject};
 use load_options::limits::MAX_INPUT;
 use person_line::Line;
 use person_line::Part::{Name, Number};
@@ -9,9 +8,10 @@ use value_types::number_within;
 /// What begins a line of the report that has a part.
 const PART: &[u8] = b"part|";
 
-/// How many bytes the part has, and in which physical line it begins: their places in the line of the report.
+/// Where a part's line tells how many bytes it has.
 const LENGTH: usize = 3;
 
+/// Where it tells the physical line in which the part begins.
 const LINE: usize = 4;
 
 /// The number that stands at a place of a line.
@@ -30,18 +30,14 @@ fn line_of_long(report: &[u8]) -> Option<u64> {
 }
 
 /// That a part is longer than a load reads, where the text tells of one. Behind a quote that is never closed all is one row.
-pub fn push_long_part(said: &mut Line, run: Run<'_>) {
-    if command_word(run.words) == "split"
-        && let Some(line) = line_of_long(run.text)
+pub fn push_long_part(said: &mut Line, words: &[String], report: &[u8]) {
+    if command_word(words) == "split"
+        && let Some(line) = line_of_long(report)
     {
         said.next_line();
         said.say(
             "{}:{}: this part has more than {} bytes: is a quote not closed?",
-            &[
-                Name(subject(run.words)),
-                Number(line),
-                Number(MAX_INPUT.most),
-            ],
+            &[Name(subject(words)), Number(line), Number(MAX_INPUT.most)],
         );
     }
 }
