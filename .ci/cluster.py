@@ -366,7 +366,8 @@ def main() -> None:
         print(text)
     if not result.wasSuccessful():
         sys.exit(1)
-    print(f"{sys.argv[0]}: {result.testsRun} tests of many files, and one in parts, by Dask {dask.__version__} and two workers, one killed in mid-task")
+    workers = f"Dask {dask.__version__} and two workers, one killed in mid-task"
+    print(f"{sys.argv[0]}: {result.testsRun} tests of many files, and one in parts, by {workers}")
 
 
 if __name__ == "__main__":

@@ -234,12 +234,14 @@ def random_words(chance: random.Random) -> list[bytes]:
         0.1: ['quote="|quote=|quote=\'', 'escape="|escape=\\|escape=', "names=p,q|names=p|names=p,q,r", "all_varchar=true"],
         0.4: ["comment=#"],
         0.3: ["header=true|header=false"],
-        0.2: ["skip=1|skip=2|skip=9", "nullstr=NA|nulls=,NA|nulls=NA,1,true", "allow_quoted_nulls=false", "max_line_size=1|max_line_size=5|max_line_size=12"],
+        0.2: ["skip=1|skip=2|skip=9", "nullstr=NA|nulls=,NA|nulls=NA,1,true", "allow_quoted_nulls=false"],
+        0.21: ["max_line_size=1|max_line_size=5|max_line_size=12"],
         0.25: ["null_padding=true"],
     }
     words = [chance.choice(each.split("|")) for share, all_of in shares.items() for each in all_of if chance.random() < share]
     if "all_varchar=true" not in words and chance.random() < 0.15:
-        words.append(chance.choice(["types=BIGINT,VARCHAR", "types=VARCHAR", "types=DATE,BIGINT,BOOLEAN", "column_types=id:VARCHAR", "column_types=column0:BIGINT"]))
+        types = ["types=BIGINT,VARCHAR", "types=VARCHAR", "types=DATE,BIGINT,BOOLEAN", "column_types=id:VARCHAR", "column_types=column0:BIGINT"]
+        words.append(chance.choice(types))
     return [word.encode() for word in words]
 
 
