@@ -9,15 +9,14 @@ use Rattle.byte_classes.specs.Dialect.{Marks}
 use Rattle.quote_automaton.specs.declared.state.State.{State}
 use Rattle.quote_automaton.specs.Automaton.{state_after}
 use Rattle.quote_automaton.specs.Runs.{IsQuiet}
+use Rattle.quote_automaton.proofs.CountedLaws.{state_passed}
 use Rattle.quote_automaton.proofs.Running.{state_along}
 use Rattle.part_cuts.specs.declared.cut_rule.CutRule.{CutRule}
 use Rattle.part_cuts.specs.declared.row_count.Counted.{Counted}
 use Rattle.part_cuts.specs.Counted.{GoesOn}
 use Rattle.part_cuts.specs.Cut.{counts_row}
 use Rattle.part_cuts.specs.Passed.{rows_begun}
-use Rattle.part_cuts.specs.PlainRows.{begun_behind, is_marked}
-use Rattle.part_cuts.proofs.PlainBits.{begun_behind-le}
-use Rattle.part_cuts.proofs.PlainRuns.{rows_of_run, state_behind, state_of_run}
+use Rattle.part_cuts.proofs.BlockRows.{rows_begun-le, rows_passed}
 
 pub goes_further : (rule : CutRule) (bytes : List ℕ) (a b c : Counted) → GoesOn rule bytes a b → GoesOn rule bytes b c → GoesOn rule bytes a c
 goes_further rule bytes a b c ab bc = record {
@@ -28,24 +27,15 @@ goes_further rule bytes a b c ab bc = record {
   rows = bc.rows ∙ ab.rows;
 }
 
--- over a block without a quote and without a comment byte
-pub goes_on_block : (rule : CutRule) (bytes : List ℕ) (old : Counted) (last : ℕ) (s : State) (more : ℕ) → old.at ≡ last + 1 → last + 65 ≤ length bytes → (rule.columns == 1) ≡ false →
-    old.state ≡ state_behind rule.dialect bytes last → s ≡ state_behind rule.dialect bytes (last + 64) → more ≡ begun_behind (get_or bytes last 0) (chunk (last + 1) 64 bytes) →
-    ((i : ℕ) → i < 64 → is_marked rule.dialect (get_or bytes (last + 1 + i) 0) ≡ false) → GoesOn rule bytes old (record { at = old.at + 64; state = s; rows = old.rows + more })
-goes_on_block rule bytes old last s more place room several is_old is_new is_more bare =
+-- over a block
+pub goes_on_block : (rule : CutRule) (bytes : List ℕ) (old : Counted) (s : State) (more : ℕ) → old.at + 64 ≤ length bytes → state_after rule.dialect old.state (chunk old.at 64 bytes) ≡ s →
+    more ≡ rows_begun rule.dialect rule.columns old.state (chunk old.at 64 bytes) → GoesOn rule bytes old (record { at = old.at + 64; state = s; rows = old.rows + more })
+goes_on_block rule bytes old s more room behind is_more =
     let d = rule.dialect in
-    let far : last + 64 + 1 ≡ old.at + 64 = omega (arith, place) in
-    let here : List ℕ = drop (old.at + 64) bytes in
-    let few : more ≤ 64 = (let le = begun_behind-le (get_or bytes last 0) (chunk (last + 1) 64 bytes) in let long = length-chunk (last + 1) 64 bytes (omega (arith, room)) in omega (arith, is_more, le, long)) in
-    let state : state_after d old.state (drop old.at bytes) ≡ state_after d s here =
-    (λ i. state_after d (is_old i) (drop (place i) bytes))
-    ∙ state_of_run d rule.columns several bytes 64 last (omega (arith, room)) bare
-    ∙ (λ i. state_after d (sym is_new i) (drop (far i) bytes)) in
-    let all : rows_begun d rule.columns old.state (drop old.at bytes) ≡ more + rows_begun d rule.columns s here =
-    (λ i. rows_begun d rule.columns (is_old i) (drop (place i) bytes))
-    ∙ rows_of_run d rule.columns several bytes 64 last (omega (arith, room)) bare
-    ∙ (λ i. sym is_more i + rows_begun d rule.columns (sym is_new i) (drop (far i) bytes)) in
-    record { low = omega arith; high = omega (arith, place, room); few = omega (arith, few); after = sym state; rows = omega (arith, all) }
+    let few : more ≤ 64 = (let le = rows_begun-le d rule.columns old.state (chunk old.at 64 bytes) in let long = length-chunk old.at 64 bytes room in omega (arith, is_more, le, long)) in
+    let all : rows_begun d rule.columns old.state (drop old.at bytes) ≡ more + rows_begun d rule.columns s (drop (old.at + 64) bytes) =
+    rows_passed d rule.columns old.state s bytes old.at 64 behind ∙ ap (λ n. n + rows_begun d rule.columns s (drop (old.at + 64) bytes)) (sym is_more) in
+    record { low = omega arith; high = room; few = omega (arith, few); after = sym (state_passed d old.state s bytes old.at 64 behind); rows = omega (arith, all) }
 
 -- over a run of bytes that change nothing
 quiet_rows : (d : Marks) (columns : ℕ) (s : State) (bytes : List ℕ) (n at : ℕ) → at + n ≤ length bytes → ((k : ℕ) → at ≤ k → k < at + n → IsQuiet d s (get_or bytes k 0)) →

@@ -1,10 +1,9 @@
+pub mod BlockRows
 pub mod CountedLaws
 pub mod CoverLaws
 pub mod NoCutLaws
 pub mod PartLaws
 pub mod PassedLaws
 pub mod PlaceOrder
-pub mod PlainBits
-pub mod PlainRuns
 pub mod ReadingLaws
 pub mod StartLaws

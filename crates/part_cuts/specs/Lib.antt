@@ -4,6 +4,5 @@ pub mod Laws
 pub mod NoCut
 pub mod Part
 pub mod Passed
-pub mod PlainRows
 pub mod Reading
 pub mod Within

@@ -6,14 +6,13 @@
 //! It serves the crates above alone.
 #![tactic(auto)]
 
+mod block_rows;
 pub mod cut_rule;
 mod cuts;
 mod first_cut;
 mod last_byte;
 pub mod laws;
 mod part;
-mod plain_rows;
-mod quiet_runs;
 mod row_bytes;
 mod row_count;
 mod tally;

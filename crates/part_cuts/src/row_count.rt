@@ -1,15 +1,14 @@
 //! How many rows begin among some bytes.
-ghost use Rattle.std.specs.Prelude.{◌≡◌, ◌+◌, ◌<◌, ◌≤◌, IfSome, length};
+ghost use Rattle.std.specs.Prelude.{◌≡◌, ◌+◌, ◌<◌, ◌≤◌, length};
 ghost use Rattle.quote_automaton.specs.Automaton.{state_after};
 ghost use Rattle.part_cuts.specs.Counted.{GoesOn};
 ghost use Rattle.part_cuts.specs.Passed.{rows_begun};
 
+use crate::block_rows::rows_in_block;
 use crate::cut_rule::CutRule;
-use crate::plain_rows::{plain_state, rows_in_block};
-use crate::quiet_runs::quiet_end;
 use crate::row_bytes::counts_row;
-use byte_classes::class_of;
-use quote_automaton::{State, step};
+use byte_classes::{bytes_at, class_of};
+use quote_automaton::{State, place_of, run_end, state_of, step};
 
 /// How far bytes are read: the place, the state in which the byte at it is read, and how many rows that count begin before.
 #[derive(Clone, Copy)]
@@ -19,40 +18,31 @@ pub(crate) struct Counted {
     pub(crate) rows: u64,
 }
 
-/// Goes on over the block of 64 bytes that follows, where its rows are told by the bytes before them.
-#[inline(always)]
-fn next_block(rule: &CutRule, bytes: &[u8], from: Counted) -> Option<Counted>
-    requires within { from.at ≤ length bytes.now }
-    requires few { from.rows ≤ from.at }
-    ensures on { IfSome result (λ next. GoesOn rule.now bytes.now from next) }
-    ensures far { IfSome result (λ next. from.at < next.at) }
-{
-    if rule.columns == 1 || from.at == 0 || bytes.len() - from.at < 64 {
-        return None;
-    }
-    let last = from.at - 1;
-    if from.state != plain_state(&rule.dialect, bytes[last]) {
-        return None;
-    }
-    let rows = rows_in_block(&rule.dialect, bytes, last)?;
-    Some(Counted {
-        at: from.at + 64,
-        state: plain_state(&rule.dialect, bytes[last + 64]),
-        rows: from.rows + rows,
-    })
-}
-
-/// Goes on block by block, as long as that counts their rows.
+/// Goes on block by block, as long as no byte of a block is out of its place.
 fn pass_blocks(rule: &CutRule, bytes: &[u8], from: Counted) -> Counted
     requires within { from.at ≤ length bytes.now }
     requires few { from.rows ≤ from.at }
     ensures { GoesOn rule.now bytes.now from result }
 {
-    let mut counted = from;
-    while let Some(next) = next_block(rule, bytes, counted) {
-        counted = next;
+    let Some(start) = place_of(&rule.dialect, from.state) else {
+        return from;
+    };
+    let mut place = start;
+    let mut at = from.at;
+    let mut rows = from.rows;
+    while bytes.len() - at >= 64 {
+        let Some(block) = rows_in_block(rule, &bytes_at(bytes, at), place) else {
+            break;
+        };
+        rows += block.rows;
+        place = block.next;
+        at += 64;
     }
-    counted
+    Counted {
+        at,
+        state: state_of(&rule.dialect, place),
+        rows,
+    }
 }
 
 /// Goes on over a byte.
@@ -83,7 +73,7 @@ fn walk(rule: &CutRule, bytes: &[u8], from: Counted, until: usize) -> Counted
     let mut counted = from;
     while counted.at < until {
         let next = next_byte(rule, bytes, counted);
-        let at = quiet_end(&rule.dialect, next.state, bytes, next.at);
+        let at = run_end(&rule.dialect, next.state, bytes, next.at);
         counted = Counted { at, ..next };
     }
     counted

@@ -1,7 +1,5 @@
 //! Places whose state is known by counting quotes.
 ghost use Rattle.std.specs.Prelude.{◌≡◌, IfSome};
-ghost use Rattle.byte_classes.specs.Dialect.{IsDialect};
-ghost use Rattle.quote_automaton.specs.Automaton.{IsDoubling};
 ghost use Rattle.quote_automaton.specs.Counted.{state_of};
 
 use crate::state::State;
@@ -9,9 +7,9 @@ use byte_classes::{Class, Dialect, class_of};
 
 /// What is known behind a byte: whether the next one stands between quotes, and the byte.
 #[derive(Clone, Copy)]
-pub(crate) struct Place {
-    pub(crate) inside: bool,
-    pub(crate) last: u8,
+pub struct Place {
+    pub inside: bool,
+    pub last: u8,
 }
 
 /// A byte that has no meaning in any dialect.
@@ -19,18 +17,17 @@ const PLAIN: u8 = 255;
 
 /// The place whose state this is, where counting gives it.
 #[inline(always)]
-pub(crate) fn place_of(dialect: &Dialect, quote: u8, state: State) -> Option<Place>
-    requires sound { IsDialect dialect.now }
-    requires doubling { IsDoubling dialect.now quote }
+pub fn place_of(dialect: &Dialect, state: State) -> Option<Place>
     ensures { IfSome result (λ place. state_of dialect.now place ≡ state) }
 {
+    let quote = dialect.quote();
     let (inside, last) = match state {
         State::RowStart => (false, b'\n'),
         State::CrSeen => (false, b'\r'),
         State::FieldStart => (false, dialect.delim()),
         State::Plain => (false, PLAIN),
         State::Quoted => (true, PLAIN),
-        State::QuoteSeen => (false, quote),
+        State::QuoteSeen => (false, quote?),
         State::Escape | State::Broken | State::Comment => return None,
     };
     Some(Place { inside, last })
@@ -38,7 +35,7 @@ pub(crate) fn place_of(dialect: &Dialect, quote: u8, state: State) -> Option<Pla
 
 /// The state at a place.
 #[inline(always)]
-pub(crate) fn state_of(dialect: &Dialect, place: Place) -> State
+pub fn state_of(dialect: &Dialect, place: Place) -> State
     ensures { result ≡ state_of dialect.now place }
 {
     if place.inside {

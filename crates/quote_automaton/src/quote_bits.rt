@@ -1,7 +1,7 @@
 //! Bits for the places of a block, by the quotes before them.
 ghost use Rattle.std.specs.Prelude.{◌≡◌, ℕ, ◌<◌, if◌then◌else◌};
 ghost use Rattle.std.specs.Int.{bit_at};
-ghost use Rattle.quote_automaton.specs.Counted.{bit_behind, is_misplaced, is_set};
+ghost use Rattle.quote_automaton.specs.Counted.{begins_counted, bit_behind, is_misplaced, is_set};
 
 /// Each bit one place later, and the first one.
 #[inline(always)]
@@ -49,4 +49,12 @@ pub(crate) fn misplaced(
     !inside
         & (comments
             | ((behind_quotes & !(ends | quotes)) | (quotes & !(behind_quotes | behind_ends))))
+}
+
+/// Where rows begin: behind a line end outside quotes, but not at the LF of a CR LF pair.
+#[inline(always)]
+pub(crate) fn row_starts(inside: u64, behind_line_ends: u64, lf: u64, behind_cr: u64) -> u64
+    ensures { (i : ℕ) → i < 64 → bit_at result i ≡ (if begins_counted (is_set inside i) (is_set behind_line_ends i) (is_set lf i) (is_set behind_cr i) then 1 else 0) }
+{
+    behind_line_ends & !(inside | (lf & behind_cr))
 }

@@ -8,4 +8,4 @@ loop-counted-preserved c =
     let next = c.next_byte-next.result in
     goes_further rule bytes c.args.from c.loop-counted.counted _ c.loop-counted.invariant
     (goes_further rule bytes c.loop-counted.counted next _ c.next_byte-next.ensures.on
-    (goes_on_quiet rule bytes next c.quiet_end-at.result c.quiet_end-at.ensures.low c.quiet_end-at.ensures.high c.quiet_end-at.ensures.quiet))
+    (goes_on_quiet rule bytes next c.run_end-at.result c.run_end-at.ensures.low c.run_end-at.ensures.high c.run_end-at.ensures.quiet))
