@@ -139,13 +139,13 @@ module _ (d : Marks) (sound : IsDialect d) (b : ℕ) where
   another : is_byte d.quote b ≡ false → is_byte d.quote b ≡ is_quote (class_of d b)
   another h = h ∙ sym ((λ i. is_quote (formed (b == 10) (b == 13) (b == d.delim) (h i) (is_byte d.escape b) (is_byte d.comment b)))
       ∙ by_tests (b == 10) (b == 13) (b == d.delim) (is_byte d.escape b) (is_byte d.comment b)) where
-    by_tests : (lf cr delim escape comment : Bool) → is_quote (formed lf cr delim false escape comment) ≡ false
-    by_tests true cr delim escape comment = refl
-    by_tests false true delim escape comment = refl
-    by_tests false false true escape comment = refl
-    by_tests false false false true comment = refl
-    by_tests false false false false true = refl
-    by_tests false false false false false = refl
+        by_tests : (lf cr delim escape comment : Bool) → is_quote (formed lf cr delim false escape comment) ≡ false
+        by_tests true cr delim escape comment = refl
+        by_tests false true delim escape comment = refl
+        by_tests false false true escape comment = refl
+        by_tests false false false true comment = refl
+        by_tests false false false false true = refl
+        by_tests false false false false false = refl
 
   by_quote : (o : Option ℕ) → d.quote ≡ o → is_byte d.quote b ≡ is_quote (class_of d b)
   by_quote None e = another (ap (λ o. is_byte o b) e)
