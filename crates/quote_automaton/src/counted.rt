@@ -87,15 +87,18 @@ fn count_quotes(dialect: &Dialect, block: &[u8; 64], place: Place) -> Option<Tol
     ensures { IfSome result (λ told. IsCounted dialect.now place block.now told.inside told.next) }
 {
     let quotes = places_of_some(dialect.quote(), block);
-    let ends = separators(dialect, block);
-    let comments = places_of_some(dialect.comment(), block);
     let odd = parities(quotes, place.inside);
     let inside = behind(odd, place.inside);
+    let blind = untold(dialect, inside, quotes);
+    if blind != 0 {
+        return None;
+    }
+    let ends = separators(dialect, block);
+    let comments = places_of_some(dialect.comment(), block);
     let behind_quotes = behind(quotes, is_quote(dialect, place.last));
     let behind_ends = behind(ends, is_separator(dialect, place.last));
     let wrong = misplaced(inside, comments, behind_quotes, behind_ends, quotes, ends);
-    let blind = untold(dialect, inside, quotes);
-    if wrong != 0 || blind != 0 || odd ^ inside != quotes {
+    if wrong != 0 || odd ^ inside != quotes {
         return None;
     }
     let next = Place {
