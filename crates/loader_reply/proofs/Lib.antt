@@ -7,6 +7,7 @@ pub mod HeadLaws
 pub mod HeadLoads
 pub mod HeadSteps
 pub mod InputLemmas
+pub mod SplitHeads
 pub mod Loads
 pub mod MadeRows
 pub mod NameSteps

@@ -1,12 +1,12 @@
 -- A reply, against what came of the files as they were opened.
-use Rattle.std.proofs.Common.{◌≡◌, ◌⊎◌, ℕ, Bool, true, false, cond, List, [], ◌∷◌, Option, None, Some, Ok, Err, refl, sym, ap, ◌∙◌, subst, inl, inr}
-use Rattle.std.specs.Prelude.{option_map, unwrap_or, ◌&&◌, ⊤}
+use Rattle.std.proofs.Common.{◌≡◌, ◌⊎◌, ℕ, Bool, true, false, cond, List, [], ◌∷◌, length, Option, None, Some, Ok, Err, refl, sym, ap, ◌∙◌, subst, inl, inr}
+use Rattle.std.specs.Prelude.{nat_lt, option_map, unwrap_or, ◌&&◌, ⊤}
 use Rattle.std.specs.Bool.{then_some}
 use Rattle.std.specs.Option.{option_or}
 use Rattle.std.specs.List.{filter_map}
 use Rattle.csv_source.specs.Causes.{Rose}
 use Rattle.load_options.specs.declared.options.Command.{Command}
-use Rattle.load_options.specs.declared.options.Command.TheVariants.{Load as load_command, Sniff, Summary, Convert, Rejects, Batch, Make}
+use Rattle.load_options.specs.declared.options.Command.TheVariants.{Load as load_command, Sniff, Summary, Convert, Rejects, Batch, Make, Split}
 use Rattle.load_options.specs.Formats.{is_sqlite}
 use Rattle.load_options.specs.declared.options.Options.{Options}
 use Rattle.load_options.specs.declared.options.Request.{Request}
@@ -15,7 +15,11 @@ use Rattle.load_options.specs.Request.{read_words}
 use Rattle.load_options.specs.Texts.{word_at}
 use Rattle.csv_sniffer.specs.declared.found.Sniffed.{Sniffed}
 use Rattle.csv_sniffer.specs.Explanation.{explanation}
-use Rattle.csv_sniffer.specs.Input.{found}
+use Rattle.csv_sniffer.specs.Input.{found, place_under}
+use Rattle.part_cuts.specs.Within.{most_bytes}
+use Rattle.file_split.specs.WholeFile.{cuts_of}
+use Rattle.load_options.specs.declared.limits.TheConstants.{COLUMN_LIMIT as list_limit}
+use Rattle.loader_reply.specs.declared.split_head.TheConstants.{HEAD_LIMIT}
 use Rattle.csv_sniffer.specs.NamedTypes.{missing_name}
 use Rattle.column_taps.specs.Seen.{Seen}
 use Rattle.file_list.specs.BatchView.{BatchView}
@@ -39,8 +43,10 @@ use Rattle.loader_reply.specs.declared.replying.Asked.TheVariants as asks
 use Rattle.loader_reply.specs.Batch.{batch_refusal, load_of, AreRead, IsLoadOf, IsOver, IsReadWhole, LacksOne}
 use Rattle.loader_reply.specs.Replying.{IsAnswer, IsReplyBy, IsReplyTo, IsStopReply, input_limit}
 use Rattle.loader_reply.specs.Databases.{is_too_wide}
-use Rattle.loader_reply.specs.Fitting.{is_database, is_of_one, refusal, too_many_columns, too_many_faults}
-use Rattle.loader_reply.specs.Reply.{Reply, reply, asked_by, asked_names, asked_reply, outcome_reply, inputs_reply, load_reply, loaded_of, without_spare, opened_reply, sniffed_outcome, sniffed_reply, unless_refused, whole_or_error, whole_reply, words_names, words_reply}
+use Rattle.loader_reply.specs.Fitting.{is_database, is_of_one, no_column, refusal, too_many_columns, too_many_faults}
+use Rattle.loader_reply.specs.Reply.{Reply, reply, asked_by, asked_limit, asked_names, asked_reply, outcome_reply, inputs_reply, load_reply, loaded_of, without_spare, opened_reply, sniffed_outcome, sniffed_reply, split_reply, unless_refused, whole_or_error, whole_reply, words_names, words_reply}
+use Rattle.loader_reply.specs.FurtherWords.{further_words}
+use Rattle.loader_reply.specs.Splitting.{cut_rule, lies_within, split_outcome, too_many_types}
 use Rattle.loader_reply.specs.SoFar.{Told}
 use Rattle.loader_reply.proofs.FileSteps.{all_read, none_left, none_read, one_more_read}
 
@@ -132,16 +138,45 @@ sniffed_answers o input = by_name (missing_name o.column_types s.names) where
   by_name None = by_word o.explain
   by_name (Some name) = inr (inr (inr (inl refl)))
 
--- the file of `sniff`
+-- what `split` tells of a file is an answer
+split_answers : (o : Options) (words : List (List ℕ)) (input : List ℕ) → IsAnswer (outcome_reply (split_outcome o words input)).status
+split_answers o words input = by_place (lies_within o.skip input) where
+  s : Sniffed
+  s = found o input
+
+  unless_told : Option Outcome → Outcome
+  unless_told before = unwrap_or before (outcomes.Split s (further_words words) (cuts_of (cut_rule o s) (place_under o s input) input))
+
+  by_width : (t : Bool) → IsAnswer (outcome_reply (unless_told (option_map (λ m. outcomes.Mismatch m) (then_some t (TooManyColumns list_limit))))).status
+  by_width true = inr (inr (inr (inl refl)))
+  by_width false = inl refl
+
+  by_name : (name : Option (List ℕ)) → IsAnswer (outcome_reply (unless_told (option_map (λ m. outcomes.Mismatch m) (option_or (option_map (λ name. NoColumn name s.names) name) (too_many_types s))))).status
+  by_name None = by_width (nat_lt list_limit (length s.types))
+  by_name (Some name) = inr (inr (inr (inl refl)))
+
+  by_place : (t : Bool) → IsAnswer (outcome_reply (unless_told (cond t (option_map (λ m. outcomes.Mismatch m) (option_or (no_column o s) (too_many_types s))) (Some (outcomes.TooLarge HEAD_LIMIT))))).status
+  by_place true = by_name (missing_name o.column_types s.names)
+  by_place false = inr (inr (inr (inr (inl refl))))
+
+-- the file of a command that tells something of it
+module _ (limit : ℕ) (tell : List ℕ → Outcome) (answers : (input : List ℕ) → IsAnswer (outcome_reply (tell input)).status) where
+  one_told : (to_inputs : List (List ℕ) → Reply) → ((input : List ℕ) → outcome_reply (tell input) ≡ to_inputs (input ∷ [])) → (held : Told) (name : List ℕ) (left : Option (List ℕ)) (before after : ℕ)
+      (outcome : Outcome) (r : Reply) → r ≡ outcome_reply outcome → IsReadWhole limit held name left (λ input. outcome ≡ tell input) → IsReplyBy limit (opened_reply to_inputs limit) (name ∷ []) held left before after r
+  one_told to_inputs gives held name left before after outcome r is read =
+      let all : List (List ℕ) = name ∷ [] in
+      within_told limit held all left before after r to_inputs (subst (λ (q : Reply). IsAnswer q.status) (sym (is ∙ ap outcome_reply read.3)) (answers read.0))
+      (all_read limit held all (one_more_read limit held all name [] (none_read limit held all) left read.0 read.1 read.2) left
+      (none_left limit held name left (λ input. outcome ≡ tell input) read) (λ inputs. r ≡ to_inputs inputs)
+      (is ∙ (ap outcome_reply read.3 ∙ gives read.0)))
+
 pub sniffed_told : (o : Options) (held : Told) (name : List ℕ) (left : Option (List ℕ)) (before after : ℕ) (outcome : Outcome) (r : Reply) → r ≡ outcome_reply outcome
     → IsReadWhole o.max_input held name left (λ input. outcome ≡ sniffed_outcome o input) → IsReplyBy o.max_input (opened_reply (sniffed_reply o) o.max_input) (name ∷ []) held left before after r
-sniffed_told o held name left before after outcome r is read =
-    let limit = o.max_input in
-    let all : List (List ℕ) = name ∷ [] in
-    within_told limit held all left before after r (sniffed_reply o) (subst (λ (q : Reply). IsAnswer q.status) (sym (is ∙ ap outcome_reply read.3)) (sniffed_answers o read.0))
-    (all_read limit held all (one_more_read limit held all name [] (none_read limit held all) left read.0 read.1 read.2) left
-    (none_left limit held name left (λ input. outcome ≡ sniffed_outcome o input) read) (λ inputs. r ≡ sniffed_reply o inputs)
-    (is ∙ ap outcome_reply read.3))
+sniffed_told o = one_told o.max_input (sniffed_outcome o) (sniffed_answers o) (sniffed_reply o) (λ input. refl)
+
+pub split_file_told : (o : Options) (words : List (List ℕ)) (held : Told) (name : List ℕ) (left : Option (List ℕ)) (before after : ℕ) (outcome : Outcome) (r : Reply) → r ≡ outcome_reply outcome
+    → IsReadWhole most_bytes held name left (λ input. outcome ≡ split_outcome o words input) → IsReplyBy most_bytes (opened_reply (split_reply o words) most_bytes) (name ∷ []) held left before after r
+split_file_told o words = one_told most_bytes (split_outcome o words) (split_answers o words) (split_reply o words) (λ input. refl)
 
 -- ---- no file is read
 
@@ -153,13 +188,11 @@ none_told limit reply_by (Some files) left before after r answers is = inl ([], 
 -- ---- the words
 
 module _ (words : List (List ℕ)) (taps : List Seen) (held : Told) (left : Option (List ℕ)) (before after : ℕ) (r : Reply) where
-  pub words_told : (request : Request) (word : List ℕ) → read_words words ≡ Ok request → word ≡ word_at words 1
-      → (let asked = asked_by request.options request.command in IsReplyBy request.options.max_input (asked_reply asked request word taps) (asked_names asked word) held left before after r)
+  pub words_told : (request : Request) → read_words words ≡ Ok request
+      → (let asked = asked_by request.options request.command in IsReplyBy (asked_limit asked request.options) (asked_reply asked request words taps) (asked_names asked (word_at words 1)) held left before after r)
       → IsReplyTo words taps held left before after r
-  words_told request word read named told =
-      subst (λ asked. IsReplyBy (input_limit asked) (words_reply asked words taps) (words_names asked (word_at words 1)) held left before after r) (sym read)
-      (let asked = asked_by request.options request.command in
-      subst (λ w. IsReplyBy request.options.max_input (asked_reply asked request w taps) (asked_names asked w) held left before after r) named told)
+  words_told request read told =
+      subst (λ asked. IsReplyBy (input_limit asked) (words_reply asked words taps) (words_names asked (word_at words 1)) held left before after r) (sym read) told
 
   pub refused_told : (fault : WordFault) → read_words words ≡ Err fault → r ≡ outcome_reply (outcomes.Refused fault (word_at words fault.index)) → IsReplyTo words taps held left before after r
   refused_told fault read is =
@@ -172,11 +205,13 @@ module _ (words : List (List ℕ)) (taps : List Seen) (held : Told) (left : Opti
 abbrev IsOfOne : Asked → Type 0
 IsOfOne asks.Made = ⊤
 IsOfOne asks.Sniffed = ⊤
+IsOfOne asks.Split = ⊤
 IsOfOne (asks.Loaded answer several) = is_of_one answer ≡ true → several ≡ false
 
 of_one : (o : Options) (command : Command) → IsOfOne (asked_by o command)
 of_one o load_command = λ alone. refl
 of_one o Sniff = tt
+of_one o Split = tt
 of_one o Summary = λ alone. refl
 of_one o Convert = λ alone. refl
 of_one o Rejects = λ alone. refl
@@ -189,18 +224,18 @@ of_one o Make = tt
 pub one_alone : (o : Options) (command : Command) (answer : Answer) (several : Bool) → asks.Loaded answer several ≡ asked_by o command → is_of_one answer ≡ true → several ≡ false
 one_alone o command answer several is = subst IsOfOne (sym is) (of_one o command)
 
-module _ (request : Request) (word : List ℕ) (taps : List Seen) (held : Told) (left : Option (List ℕ)) (before after : ℕ) (r : Reply) where
+module _ (request : Request) (words : List (List ℕ)) (taps : List Seen) (held : Told) (left : Option (List ℕ)) (before after : ℕ) (r : Reply) where
   pub asked_told : (asked : Asked) (o : Options) → asked ≡ asked_by o request.command → o ≡ request.options
-      → IsReplyBy o.max_input (asked_reply asked (record request { options = o }) word taps) (asked_names asked word) held left before after r
-      → (let all = asked_by request.options request.command in IsReplyBy request.options.max_input (asked_reply all request word taps) (asked_names all word) held left before after r)
+      → IsReplyBy (asked_limit asked o) (asked_reply asked (record request { options = o }) words taps) (asked_names asked (word_at words 1)) held left before after r
+      → (let all = asked_by request.options request.command in IsReplyBy (asked_limit all request.options) (asked_reply all request words taps) (asked_names all (word_at words 1)) held left before after r)
   asked_told asked o is same told =
-      subst (λ (x : Options). IsReplyBy x.max_input (asked_reply (asked_by x request.command) (record request { options = x }) word taps) (asked_names (asked_by x request.command) word) held left before after r) same
-      (subst (λ a. IsReplyBy o.max_input (asked_reply a (record request { options = o }) word taps) (asked_names a word) held left before after r) is told)
+      subst (λ (x : Options). IsReplyBy (asked_limit (asked_by x request.command) x) (asked_reply (asked_by x request.command) (record request { options = x }) words taps) (asked_names (asked_by x request.command) (word_at words 1)) held left before after r) same
+      (subst (λ a. IsReplyBy (asked_limit a o) (asked_reply a (record request { options = o }) words taps) (asked_names a (word_at words 1)) held left before after r) is told)
 
   pub made_told : (o : Options) → asks.Made ≡ asked_by o request.command → o ≡ request.options → r ≡ reply (endings.Answered 0 None) (made_text request.number request.rows)
-      → (let all = asked_by request.options request.command in IsReplyBy request.options.max_input (asked_reply all request word taps) (asked_names all word) held left before after r)
+      → (let all = asked_by request.options request.command in IsReplyBy (asked_limit all request.options) (asked_reply all request words taps) (asked_names all (word_at words 1)) held left before after r)
   made_told o is same made = asked_told asks.Made o is same
-      (none_told o.max_input (asked_reply asks.Made (record request { options = o }) word taps) held left before after r (subst (λ (q : Reply). IsAnswer q.status) (sym made) (inl refl)) made)
+      (none_told o.max_input (asked_reply asks.Made (record request { options = o }) words taps) held left before after r (subst (λ (q : Reply). IsAnswer q.status) (sym made) (inl refl)) made)
 
 -- ---- the report of the only file
 

@@ -44,6 +44,7 @@ ending_of (outcomes.Mismatch mismatch) = endings.Mismatch mismatch
 ending_of (outcomes.TooManyFaults bound) = endings.TooManyFaults bound
 ending_of (outcomes.Sniffed s) = endings.Answered (faults_in (outcomes.Sniffed s)) (Some s.noticed)
 ending_of (outcomes.Explained s e) = endings.Answered (faults_in (outcomes.Explained s e)) (Some s.noticed)
+ending_of (outcomes.Split s words cuts) = endings.Answered (faults_in (outcomes.Split s words cuts)) (Some s.noticed)
 ending_of (outcomes.Loaded l) = endings.Answered (faults_in (outcomes.Loaded l)) (Some l.sniffed.noticed)
 ending_of (outcomes.Summary l tap_lines) = endings.Answered (faults_in (outcomes.Summary l tap_lines)) (Some l.sniffed.noticed)
 ending_of (outcomes.Batch s batch store stats) = endings.Answered (faults_in (outcomes.Batch s batch store stats)) (Some s.noticed)

@@ -4,6 +4,8 @@ pub mod Ending
 pub mod Laws
 pub mod Loading
 pub mod Reading
+pub mod FurtherWords
+pub mod Splitting
 pub mod Fitting
 pub mod Reply
 pub mod Replying

@@ -5,7 +5,7 @@ use Rattle.std.specs.List.{filter_map}
 use Rattle.std.specs.declared.alloc.Global.{Global}
 use Rattle.csv_source.specs.Files.{file_of}
 use Rattle.load_options.specs.declared.options.Command.{Command}
-use Rattle.load_options.specs.declared.options.Command.TheVariants.{Load, Sniff, Summary, Convert, Rejects, Batch, Make}
+use Rattle.load_options.specs.declared.options.Command.TheVariants.{Load, Sniff, Summary, Convert, Rejects, Batch, Make, Split}
 use Rattle.load_options.specs.declared.options.Options.{Options}
 use Rattle.load_options.specs.declared.options.Request.{Request}
 use Rattle.load_options.specs.declared.words.WordFault.{WordFault}
@@ -28,6 +28,7 @@ use Rattle.report_text.specs.declared.outcome.Mismatch.TheVariants.{OtherHeader}
 use Rattle.report_text.specs.declared.outcome.Outcome.{Outcome}
 use Rattle.report_text.specs.declared.outcome.Outcome.TheVariants as outcomes
 use Rattle.report_text.specs.declared.outcome.Stats.{Stats}
+use Rattle.part_cuts.specs.Within.{most_bytes}
 use Rattle.csv_writer.specs.WrittenTable.{written_table}
 use Rattle.csv_writer.specs.WrittenRejects.{written_rejects}
 use Rattle.db_writer.specs.Database.{database}
@@ -37,6 +38,7 @@ use Rattle.loader_reply.specs.Fitting.{no_column, refusal}
 use Rattle.loader_reply.specs.Ending.{ending_code, ending_of}
 use Rattle.loader_reply.specs.Reading.{keep_of}
 use Rattle.loader_reply.specs.Showing.{tap_lines}
+use Rattle.loader_reply.specs.Splitting.{split_outcome}
 use Rattle.loader_reply.specs.declared.answering.Answer.{Answer}
 use Rattle.loader_reply.specs.declared.answering.Answer.TheVariants as answers
 use Rattle.loader_reply.specs.declared.batch.Load.{Load as FilesLoad}
@@ -145,6 +147,11 @@ abbrev pub sniffed_reply : Options → List (List ℕ) → Reply
 sniffed_reply o [] = outcome_reply (sniffed_outcome o [])
 sniffed_reply o (input ∷ inputs) = outcome_reply (sniffed_outcome o input)
 
+-- the reply of `split` to words, by the first
+abbrev pub split_reply : Options → List (List ℕ) → List (List ℕ) → Reply
+split_reply o words [] = outcome_reply (split_outcome o words [])
+split_reply o words (input ∷ inputs) = outcome_reply (split_outcome o words input)
+
 -- the reply by the load of inputs under names, each read under what is found in the first one
 abbrev pub inputs_reply : Answer → Options → List (List ℕ) → List Seen → List (List ℕ) → Reply
 inputs_reply answer o names taps inputs = let s = found_in_first o inputs in load_reply answer o s taps (load_of o s names inputs)
@@ -161,28 +168,38 @@ opened_reply to_inputs limit opened = unless_refused (to_inputs (filter_map (λ 
 abbrev pub asked_by : Options → Command → Asked
 asked_by o Load = asks.Loaded answers.Loaded false
 asked_by o Sniff = asks.Sniffed
+asked_by o Split = asks.Split
 asked_by o Summary = asks.Loaded answers.Summary false
 asked_by o Convert = asks.Loaded (in_format o answers.Written) false
 asked_by o Rejects = asks.Loaded answers.Rejects false
 asked_by o Batch = asks.Loaded (in_format o answers.Batch) true
 asked_by o Make = asks.Made
 
--- the reply to a request that asks for this, and whose file or files are named by a word, by what came of them as they were opened; `make` reads none
-abbrev pub asked_reply : Asked → Request → List ℕ → List Seen → List (Option (List ℕ)) → Reply
-asked_reply asks.Made request word taps opened = reply (endings.Answered 0 None) (made_text request.number request.rows)
-asked_reply asks.Sniffed request word taps opened = let o = request.options in
+-- the most bytes of each file that is read for what is asked
+abbrev pub asked_limit : Asked → Options → ℕ
+asked_limit asks.Made o = o.max_input
+asked_limit asks.Sniffed o = o.max_input
+asked_limit asks.Split o = most_bytes
+asked_limit (asks.Loaded answer several) o = o.max_input
+
+-- the reply to the words of a request that asks for this, by what came of their files as they were opened; `make` reads none
+abbrev pub asked_reply : Asked → Request → List (List ℕ) → List Seen → List (Option (List ℕ)) → Reply
+asked_reply asks.Made request words taps opened = reply (endings.Answered 0 None) (made_text request.number request.rows)
+asked_reply asks.Sniffed request words taps opened = let o = request.options in
     opened_reply (sniffed_reply o) o.max_input opened
-asked_reply (asks.Loaded answer several) request word taps opened = let o = request.options in
-    opened_reply (inputs_reply answer o (names_of several word) taps) o.max_input opened
+asked_reply asks.Split request words taps opened = opened_reply (split_reply request.options words) most_bytes opened
+asked_reply (asks.Loaded answer several) request words taps opened = let o = request.options in
+    opened_reply (inputs_reply answer o (names_of several (word_at words 1)) taps) o.max_input opened
 
 abbrev pub words_reply : Result Request WordFault → List (List ℕ) → List Seen → List (Option (List ℕ)) → Reply
 words_reply (Err fault) words taps opened = outcome_reply (outcomes.Refused fault (word_at words fault.index))
-words_reply (Ok request) words taps opened = asked_reply (asked_by request.options request.command) request (word_at words 1) taps opened
+words_reply (Ok request) words taps opened = asked_reply (asked_by request.options request.command) request words taps opened
 
 -- the names of the files that are read for what is asked, and that words want to be read
 abbrev pub asked_names : Asked → List ℕ → List (List ℕ)
 asked_names asks.Made word = []
 asked_names asks.Sniffed word = word ∷ []
+asked_names asks.Split word = word ∷ []
 asked_names (asks.Loaded answer several) word = names_of several word
 
 abbrev pub words_names : Result Request WordFault → List ℕ → List (List ℕ)

@@ -17,7 +17,7 @@ use Rattle.loader_reply.specs.declared.ending.Ending.{Ending}
 use Rattle.loader_reply.specs.declared.ending.Ending.TheVariants as endings
 use Rattle.loader_reply.specs.declared.status.Status.TheVariants as statuses
 use Rattle.loader_reply.specs.Ending.{status_code}
-use Rattle.loader_reply.specs.Reply.{Reply, outcome_reply, words_names, words_reply}
+use Rattle.loader_reply.specs.Reply.{Reply, asked_by, asked_limit, outcome_reply, words_names, words_reply}
 
 -- ---- what words ask for
 
@@ -32,10 +32,10 @@ ReadsFile words = IsTrue (reads_file (read_words words))
 abbrev pub ReadsNoFile : List (List ℕ) → Type 0
 ReadsNoFile words = IsFalse (reads_file (read_words words))
 
--- the limit of an input that accepted words give
+-- the limit of an input of accepted words
 abbrev pub input_limit : Result Request WordFault → ℕ
 input_limit (Err fault) = 0
-input_limit (Ok request) = request.options.max_input
+input_limit (Ok request) = asked_limit (asked_by request.options request.command) request.options
 
 -- ---- how a reply comes about, and how it is written
 

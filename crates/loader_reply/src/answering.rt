@@ -51,12 +51,12 @@ impl<'a, R: Threads + Sync, G> Loader<'a, R, G> {
         Reply::report(self.alloc, outcome)
     }
 
-    /// The reply where the reading of files stopped.
-    pub fn stopped_reply(&self, stop: LoadStop) -> Result<Reply, NoMemory>
-        ensures ok { IfOk result (IsStopReply self.now.options.now.max_input stop) }
+    /// The reply where the reading of files within a limit stopped.
+    pub fn stopped_reply(&self, limit: u64, stop: LoadStop) -> Result<Reply, NoMemory>
+        ensures ok { IfOk result (IsStopReply limit stop) }
     {
         match stop {
-            LoadStop::TooLarge => self.report(Outcome::TooLarge(self.options.max_input)),
+            LoadStop::TooLarge => self.report(Outcome::TooLarge(limit)),
             LoadStop::Failed => self.report(Outcome::ReadFault),
             LoadStop::NoMemory => Err(NoMemory),
         }
@@ -192,7 +192,7 @@ impl<'a, R: Threads + Sync, G> Loader<'a, R, G> {
     {
         match self.sniff_file(name, source) {
             Ok(outcome) => self.report(outcome),
-            Err(stop) => self.stopped_reply(stop),
+            Err(stop) => self.stopped_reply(self.options.max_input, stop),
         }
     }
 }

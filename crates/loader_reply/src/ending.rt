@@ -15,7 +15,7 @@ use report_text::{Mismatch, Outcome};
 #[derive(Drop)]
 pub enum Ending {
     /// The whole report, written table, database or made text was written. So many faults of rows were passed over, stored or not: 0
-    /// for `sniff` and `make`. Beside it stands what was noticed in the file, of `batch` in the first one; none where no file
+    /// for `sniff`, `split` and `make`. Beside it stands what was noticed in the file, of `batch` in the first one; none where no file
     /// was looked at.
     Answered(u64, Option<Noticed>),
     /// The words were refused.
@@ -69,6 +69,7 @@ impl Ending {
             Outcome::TooManyFaults(bound) => Ending::TooManyFaults(*bound),
             Outcome::Sniffed(sniffed)
             | Outcome::Explained(sniffed, _)
+            | Outcome::Split(sniffed, ..)
             | Outcome::Batch(sniffed, ..) => Ending::Answered(faults, Some(sniffed.noticed)),
             Outcome::Loaded(loaded) | Outcome::Summary(loaded, _) => {
                 Ending::Answered(faults, Some(loaded.sniffed.noticed))

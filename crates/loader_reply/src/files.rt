@@ -27,7 +27,7 @@ use std::thread::Threads;
 use window_load::{InputWindow, LoadStop};
 
 /// The first reading: a sample, a byte order mark, and some skipped lines.
-const FIRST: usize = SAMPLE_LIMIT + 65_536;
+pub const FIRST: usize = SAMPLE_LIMIT + 65_536;
 
 /// Whether a head holds the sample, and tells whether the input ends with it.
 fn holds_sample(head: &InputWindow, skip: u64) -> bool

@@ -11,7 +11,7 @@ ghost use Rattle.loader_reply.specs.declared.ending.Ending.TheVariants as ending
 ghost use Rattle.loader_reply.specs.declared.status.Status.TheVariants as statuses;
 ghost use Rattle.loader_reply.specs.Ending.{status_code};
 ghost use Rattle.loader_reply.specs.Replying.{ReadsFile, ReadsNoFile, IsReplyBy, IsReplyTo};
-ghost use Rattle.loader_reply.specs.Reply.{texts, reply, asked_by, asked_names, asked_reply, outcome_reply};
+ghost use Rattle.loader_reply.specs.Reply.{texts, reply, asked_by, asked_limit, asked_names, asked_reply, outcome_reply};
 
 use crate::answering::Answer;
 use crate::ending::Ending;
@@ -34,6 +34,8 @@ pub enum Asked {
     Made,
     /// What is found in a file.
     Sniffed,
+    /// Where a file can be cut.
+    Split,
     /// The load of a file, and how it is answered; where it is so, of the several that one word names.
     Loaded(Answer, bool),
 }
@@ -66,6 +68,7 @@ impl<'a, R: Threads + Sync, G> Loader<'a, R, G> {
         match command {
             Command::Make => Asked::Made,
             Command::Sniff => Asked::Sniffed,
+            Command::Split => Asked::Split,
             Command::Load => Asked::Loaded(Answer::Loaded, false),
             Command::Rejects => Asked::Loaded(Answer::Rejects, false),
             Command::Summary => Asked::Loaded(Answer::Summary, false),
@@ -76,11 +79,11 @@ impl<'a, R: Threads + Sync, G> Loader<'a, R, G> {
 }
 
 impl<'a, R: Threads + Wait + Sync, G: Gate> Loader<'a, R, G> {
-    /// The reply to a request with these options, whose file or files are named by that word.
+    /// The reply to a request with these options, which words ask for.
     fn reply_to_request<S: Source + Send>(
         &self,
         request: &Request,
-        word: &str,
+        words: &[String],
         source: &mut S,
         taps: Vec<Box<dyn RowTap>>,
     ) -> Result<Reply, NoMemory>
@@ -89,7 +92,7 @@ impl<'a, R: Threads + Wait + Sync, G: Gate> Loader<'a, R, G> {
         requires rows { request.now.rows ≤ ROW_LIMIT }
         requires fresh { All IsFresh (map seen taps.items) }
         ensures ok { let asked = asked_by request.now.options request.now.command in
-            IfOk result (IsReplyBy request.now.options.max_input (asked_reply asked request.now word.now (map seen taps.items)) (asked_names asked word.now)
+            IfOk result (IsReplyBy (asked_limit asked request.now.options) (asked_reply asked request.now (texts words.now) (map seen taps.items)) (asked_names asked (word_at (texts words.now) 1))
             (S.held source.old) (S.left source.new) (S.faults source.old) (S.faults source.new)) }
         ensures fault_of_file { IfOk result (λ r. r.status ≡ status_code statuses.ReadFault → is_make request.now.command ≡ false) }
         ensures untouched { is_make request.now.command ≡ true → source.new ≡ source.old }
@@ -98,10 +101,11 @@ impl<'a, R: Threads + Wait + Sync, G: Gate> Loader<'a, R, G> {
     {
         match self.asked(request.command) {
             Asked::Made => made_reply(self.alloc, request),
-            Asked::Sniffed => self.sniffed_reply(word, source),
-            Asked::Loaded(answer, several) => match self.load_files(word, several, source) {
+            Asked::Sniffed => self.sniffed_reply(word_at(words, 1), source),
+            Asked::Split => self.split_reply(words, source),
+            Asked::Loaded(answer, several) => match self.load_files(word_at(words, 1), several, source) {
                 Ok(files) => self.load_reply(answer, files, taps),
-                Err(stop) => self.stopped_reply(stop),
+                Err(stop) => self.stopped_reply(self.options.max_input, stop),
             },
         }
     }
@@ -132,7 +136,7 @@ pub fn reply_to<R: Threads + Wait + Sync, S: Source + Send, G: Gate>(
                 options: &request.options,
                 gate,
             };
-            let reply = loader.reply_to_request(&request, word_at(words, 1), source, taps);
+            let reply = loader.reply_to_request(&request, words, source, taps);
             // As one value, as in `Ending::of`.
             drop(request);
             reply

@@ -18,7 +18,7 @@ returns-in-Ok-clause-ok g c =
     let taps = map (λ tap. (goal.RowTap-dyn g (tap.vtable, tap.value)).seen tap.value) c.args.taps.items in
     IfOk-weaker c.reply_to_request-reply.result _ _
     (λ r told. words_told (texts c.args.words.now) taps (g.S.Source.held c.args.source.now) (g.S.Source.left c.reply_to_request-reply.new.source)
-    (g.S.Source.faults c.args.source.now) (g.S.Source.faults c.reply_to_request-reply.new.source) r c.in-Ok.request c.word_at.result.now c.in-Ok.ensures.ok c.word_at.ensures told)
+    (g.S.Source.faults c.args.source.now) (g.S.Source.faults c.reply_to_request-reply.new.source) r c.in-Ok.request c.in-Ok.ensures.ok told)
     c.reply_to_request-reply.ensures.ok
 
 pub returns-in-Err-Fault-clause-ok : goal.returns-in-Err-Fault-clause-ok

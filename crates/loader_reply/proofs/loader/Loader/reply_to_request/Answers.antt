@@ -1,7 +1,7 @@
 use Rattle.std.proofs.Common.{length, map, refl, sym, ap, ◌∙◌, subst, Err}
 use Rattle.std.proofs.lemmas.Result.{IfOk-weaker}
 use Rattle.loader_reply.specs.Batch.{names_of, HasFiles}
-use Rattle.loader_reply.specs.Reply.{inputs_reply}
+use Rattle.loader_reply.specs.Reply.{asked_reply, asked_names, inputs_reply, texts}
 use Rattle.loader_reply.specs.declared.replying.Asked.TheVariants as asks
 use Rattle.loader_reply.proofs.Replies.{asked_told, loaded_told, made_told, one_alone, stopped_told}
 use Rattle.loader_reply.proofs.loader.Loader.reply_to_request.Goals as goal
@@ -18,7 +18,7 @@ pub returns-in-Made-clause-ok : goal.returns-in-Made-clause-ok
 returns-in-Made-clause-ok g c =
     let taps = map (λ tap. (goal.RowTap-dyn g (tap.vtable, tap.value)).seen tap.value) c.args.taps.items in
     IfOk-weaker c.made_reply.result _ _
-    (λ r is. made_told c.args.request.now c.args.word.now taps (g.S.Source.held c.args.source.now) (g.S.Source.left c.args.source.now) (g.S.Source.faults c.args.source.now) (g.S.Source.faults c.args.source.now)
+    (λ r is. made_told c.args.request.now (texts c.args.words.now) taps (g.S.Source.held c.args.source.now) (g.S.Source.left c.args.source.now) (g.S.Source.faults c.args.source.now) (g.S.Source.faults c.args.source.now)
     r c.args.self.now.options.now (sym c.in-Made.is ∙ c.asked.ensures) c.requires.same is)
     c.made_reply.ensures.ok
 
@@ -26,7 +26,7 @@ pub returns-in-Sniffed-clause-ok : goal.returns-in-Sniffed-clause-ok
 returns-in-Sniffed-clause-ok g c =
     let taps = map (λ tap. (goal.RowTap-dyn g (tap.vtable, tap.value)).seen tap.value) c.args.taps.items in
     IfOk-weaker c.sniffed_reply.result _ _
-    (λ r told. asked_told c.args.request.now c.args.word.now taps (g.S.Source.held c.args.source.now) (g.S.Source.left c.sniffed_reply.new.source) (g.S.Source.faults c.args.source.now) (g.S.Source.faults c.sniffed_reply.new.source)
+    (λ r told. asked_told c.args.request.now (texts c.args.words.now) taps (g.S.Source.held c.args.source.now) (g.S.Source.left c.sniffed_reply.new.source) (g.S.Source.faults c.args.source.now) (g.S.Source.faults c.sniffed_reply.new.source)
     r asks.Sniffed c.args.self.now.options.now (sym c.in-Sniffed.is ∙ c.asked.ensures) c.requires.same told)
     c.sniffed_reply.ensures.ok
 
@@ -42,7 +42,7 @@ returns-in-Ok-clause-ok g c =
     let files = c.in-Ok.files in
     let taps = map (λ tap. (goal.RowTap-dyn g (tap.vtable, tap.value)).seen tap.value) c.args.taps.items in
     IfOk-weaker c.load_reply.result _ _
-    (λ r is. asked_told c.args.request.now c.args.word.now taps held left before after r (asks.Loaded answer several) o (sym c.in-Loaded.is ∙ c.asked.ensures) c.requires.same
+    (λ r is. asked_told c.args.request.now (texts c.args.words.now) taps held left before after r (asks.Loaded answer several) o (sym c.in-Loaded.is ∙ c.asked.ensures) c.requires.same
     (loaded_told o.max_input held (names_of several c.args.word.now) left before after r answer o files.sniffed taps files.load is c.in-Ok.ensures.ok refl))
     c.load_reply.ensures.ok
 
@@ -59,7 +59,7 @@ returns-in-Err-clause-ok g c =
     let names = names_of several c.args.word.now in
     let taps = map (λ tap. (goal.RowTap-dyn g (tap.vtable, tap.value)).seen tap.value) c.args.taps.items in
     IfOk-weaker c.stopped_reply.result _ _
-    (λ r is. asked_told c.args.request.now c.args.word.now taps held left before after r (asks.Loaded answer several) o (sym c.in-Loaded.is ∙ c.asked.ensures) c.requires.same
+    (λ r is. asked_told c.args.request.now (texts c.args.words.now) taps held left before after r (asks.Loaded answer several) o (sym c.in-Loaded.is ∙ c.asked.ensures) c.requires.same
     (stopped_told o.max_input held names left before after r (inputs_reply answer o names taps) stop is
     (λ e. c.load_files.ensures.too_large (c.in-Err.is ∙ ap (λ s. Err s) e)) (λ e. c.load_files.ensures.failed (c.in-Err.is ∙ ap (λ s. Err s) e))))
     c.stopped_reply.ensures.ok
