@@ -8,6 +8,7 @@ pub mod HeadLoads
 pub mod HeadSteps
 pub mod InputLemmas
 pub mod SplitHeads
+pub mod FurtherSteps
 pub mod Loads
 pub mod MadeRows
 pub mod NameSteps

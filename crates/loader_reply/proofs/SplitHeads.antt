@@ -12,6 +12,7 @@ use Rattle.csv_sniffer.specs.declared.found.Sniffed.{Sniffed}
 use Rattle.csv_sniffer.specs.Input.{found, place_under}
 use Rattle.csv_sniffer.specs.Sample.{sample_limit, start_of_sample}
 use Rattle.part_cuts.specs.Reading.{Reading}
+use Rattle.part_cuts.specs.Within.{most_bytes}
 use Rattle.file_split.specs.declared.file_piece.FilePiece.{FilePiece}
 use Rattle.file_split.specs.WholeFile.{cuts_of, ComesAll, ComesMore}
 use Rattle.window_load.specs.DataRead.{ComesWhole, ComesOver}
@@ -62,6 +63,10 @@ module _ (skip : ℕ) (held : FilePiece) (came : List ℕ) (quiet : held.ended �
       let start : start_of_sample skip front ≡ start_of_sample skip held.bytes = ap (start_of_sample skip) same in
       ap₂ (λ t u. t || u) (lt-leb (length input) HEAD_LIMIT (omega (arith, full, length-append held.bytes came)))
       (lt-leb (start_of_sample skip front + sample_limit) HEAD_LIMIT (omega (arith, start, full, short)))
+
+pub head_short : (skip : ℕ) (held : FilePiece) (lies : Bool) → IsSplitHead skip held lies → length held.bytes ≤ most_bytes
+head_short skip held true (within, holds) = omega (arith, within)
+head_short skip held false (full, short) = omega (arith, full)
 
 -- what is told by what was found in the head is told of the whole file
 module _ (o : Options) (words : List (List ℕ)) (held : FilePiece) (finding : Finding) (found_here : IsFinding o held.bytes finding) (came : List ℕ) (quiet : held.ended ≡ true → came ≡ []) where

@@ -1,11 +1,11 @@
 // The words of a part of a file beside those that fix what was found.
-ghost use Rattle.std.specs.Prelude.{◌≡◌, IfOk};
+ghost use Rattle.std.specs.Prelude.{◌≡◌, ◌++◌, ◌∷◌, [], filter, IfOk, OnOk};
 ghost use Rattle.load_options.specs.Given.{name_part};
 ghost use Rattle.loader_reply.specs.FurtherWords.{further_words, is_found_option, is_further, is_whole_option};
 ghost use Rattle.loader_reply.specs.Reply.{texts};
 
 use csv_source::NoMemory;
-use load_options::option_named;
+use load_options::{option_named, word_at};
 use std::alloc::Global;
 use value_types::Names;
 
@@ -50,15 +50,23 @@ fn is_further(word: &str) -> bool
     !(is_found_option(option) || is_whole_option(option))
 }
 
+/// Puts a word behind others, if a part needs it.
+fn push_further(further: &mut Names, word: &str) -> Result<(), NoMemory>
+    ensures ok { OnOk result (further.new ≡ further.old ++ filter is_further (word.now ∷ [])) }
+{
+    if is_further(word) {
+        further.push(word.as_bytes())?;
+    }
+    Ok(())
+}
+
 /// The words behind the command and the file that each part needs, in their order.
 pub fn further_words(alloc: Global, words: &[String]) -> Result<Names, NoMemory>
     ensures ok { IfOk result (λ further. further ≡ further_words (texts words.now)) }
 {
     let mut further = Names::new(alloc);
-    for word in words.iter().skip(FIRST_OPTION) {
-        if is_further(word.as_str()) {
-            further.push(word.as_bytes())?;
-        }
+    for place in FIRST_OPTION..words.len() {
+        push_further(&mut further, word_at(words, place))?;
     }
     Ok(further)
 }

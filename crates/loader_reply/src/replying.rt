@@ -99,11 +99,12 @@ impl<'a, R: Threads + Wait + Sync, G: Gate> Loader<'a, R, G> {
         ensures held { S.held source.new ≡ S.held source.old }
         ensures count { S.faults source.old ≤ S.faults source.new }
     {
+        let word = word_at(words, 1);
         match self.asked(request.command) {
             Asked::Made => made_reply(self.alloc, request),
-            Asked::Sniffed => self.sniffed_reply(word_at(words, 1), source),
+            Asked::Sniffed => self.sniffed_reply(word, source),
             Asked::Split => self.split_reply(words, source),
-            Asked::Loaded(answer, several) => match self.load_files(word_at(words, 1), several, source) {
+            Asked::Loaded(answer, several) => match self.load_files(word, several, source) {
                 Ok(files) => self.load_reply(answer, files, taps),
                 Err(stop) => self.stopped_reply(self.options.max_input, stop),
             },

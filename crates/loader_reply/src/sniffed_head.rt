@@ -35,13 +35,22 @@ fn reads_on(options: &Options, head: &InputWindow) -> bool
     options.threads > 1 && !options.pipeline && !head.ended()
 }
 
+/// Looks at the sample of an input's first bytes.
+pub fn sniff_bytes(alloc: Global, options: &Options, bytes: &[u8]) -> Result<Finding, NoMemory>
+    requires within { IsAccepted options.now }
+    ensures ok { IfOk result (IsFinding options.now bytes.now) }
+    ensures columns { IfOk result (λ finding. HasColumns (schema_of options.now finding.sniffed)) }
+{
+    sniff_input(alloc, options, bytes)
+}
+
 /// Looks at the sample of a head.
 fn sniff_kept(alloc: Global, options: &Options, head: &InputWindow) -> Result<Finding, NoMemory>
     requires within { IsAccepted options.now }
     ensures ok { IfOk result (IsFinding options.now head.now.kept) }
     ensures columns { IfOk result (λ finding. HasColumns (schema_of options.now finding.sniffed)) }
 {
-    sniff_input(alloc, options, head.bytes())
+    sniff_bytes(alloc, options, head.bytes())
 }
 
 /// A head with what was found in it.

@@ -9,9 +9,11 @@ ghost use Rattle.report_text.specs.declared.outcome.Outcome.TheVariants as outco
 ghost use Rattle.loader_reply.specs.FurtherWords.{further_words};
 ghost use Rattle.part_cuts.specs.Within.{most_bytes, IsCutRule};
 ghost use Rattle.file_split.specs.WholeFile.{cuts_of, ComesAll, ComesMore};
+ghost use Rattle.range_scan.specs.Scanned.{HasColumns};
 ghost use Rattle.window_load.specs.declared.stop.LoadStop.TheVariants as stops;
 ghost use Rattle.loader_reply.specs.Batch.{IsReadWhole, IsReadOver};
 ghost use Rattle.loader_reply.specs.Loading.{IsFinding};
+ghost use Rattle.loader_reply.specs.Reading.{schema_of};
 ghost use Rattle.loader_reply.specs.Reply.{texts, opened_reply, split_reply, IsShort};
 ghost use Rattle.loader_reply.specs.Replying.{IsReplyBy};
 ghost use Rattle.loader_reply.specs.Splitting.{cut_rule, split_outcome, split_told, unsplit, IsSplitHead};
@@ -20,7 +22,8 @@ use crate::further_words::further_words;
 use crate::loader::Loader;
 use crate::reply::Reply;
 use crate::split_head::{HEAD_LIMIT, SplitHead};
-use csv_sniffer::{Finding, Sniffed, sniff_input};
+use crate::sniffed_head::sniff_bytes;
+use csv_sniffer::{Finding, Sniffed};
 use csv_source::{NoMemory, Source};
 use file_split::{FilePiece, cut_file};
 use load_options::limits::{COLUMN_LIMIT, SIZE};
@@ -147,7 +150,7 @@ impl<'a, R, G> Loader<'a, R, G> {
         requires accepted { IsAccepted self.now.options.now }
         requires head { IsSplitHead self.now.options.now.skip head.held head.lies }
         requires finding { IsFinding self.now.options.now head.held.bytes finding }
-        requires columns { length finding.sniffed.names ≡ length finding.sniffed.types }
+        requires columns { HasColumns (schema_of self.now.options.now finding.sniffed) }
         requires at_end { head.held.ended ≡ true → IsAtEnd (S.left source.old) }
         ensures ok { IfOk result (λ outcome. ComesAll (S.left source.old) (S.left source.new) head.held most_bytes
             (λ input. outcome ≡ split_outcome self.now.options.now (texts words.now) input)) }
@@ -183,8 +186,7 @@ impl<'a, R, G> Loader<'a, R, G> {
         ensures count { S.faults source.old ≤ S.faults source.new }
     {
         let head = self.open_split(word_at(words, 1), source)?;
-        let found = sniff_input(self.alloc, self.options, head.held.bytes.as_slice());
-        match found {
+        match sniff_bytes(self.alloc, self.options, head.held.bytes.as_slice()) {
             Ok(finding) => self.split_found(words, head, finding, source),
             Err(NoMemory) => {
                 drop(head);
