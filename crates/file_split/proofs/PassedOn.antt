@@ -1,5 +1,5 @@
 -- Pieces of a file that go through its cuts one after another.
-use Rattle.std.proofs.Common.{◌≡◌, ◌⊎◌, inl, inr, ℕ, ◌+◌, ◌-◌, ◌≤◌, Bool, true, List, [], ◌∷◌, ◌++◌, length, take, drop, Option, refl, sym, ◌∙◌, ap, arith, append-nil, append_assoc, length-append}
+use Rattle.std.proofs.Common.{◌≡◌, ◌⊎◌, inl, inr, ℕ, ◌+◌, ◌-◌, ◌≤◌, Bool, true, false, List, [], ◌∷◌, ◌++◌, length, take, drop, Option, refl, sym, ◌∙◌, ap, arith, append-nil, append_assoc, length-append}
 use Rattle.std.specs.Io.KnownBytes.{Consumes, IsAtEnd}
 use Rattle.std.proofs.KnownBytes.{Consumes-nil, Consumes-trans}
 use Rattle.std.proofs.lemmas.List.{take-append-drop, take-append-le, length-drop, length-take-le}
@@ -47,7 +47,7 @@ module _ (first : FilePiece) (before : Option (List ℕ)) (start : Reading) wher
     abbrev n : ℕ
     n = bytes_passed kept
 
-    front : List ℕ
+    abbrev front : List ℕ
     front = take n kept
 
     read_past : (seam : (front ≡ []) ⊎ (2 ≤ length (drop n kept))) (ys seen more : List ℕ) → ys ++ seen ≡ drop n kept ++ more →

@@ -18,7 +18,7 @@ module _ (before after : Option (List ℕ)) (held : FilePiece) (rule : CutRule) 
     longer : (came : List ℕ) → length (held.bytes ++ came) ≡ start + length (rest.bytes ++ came)
     longer came = omega (arith, length-append held.bytes came, length-append rest.bytes came, ap length bytes, length-drop start held.bytes, within)
 
-    pub whole_cut : (cuts : Reading) → ComesAll before after rest (most_bytes - start) (λ data. cuts ≡ reading (begun_at rule start held.bytes) data []) → start ≤ most_bytes →
+    pub whole_cut : (cuts : Reading) → ComesAll before after rest (most_bytes - start) (λ bytes. cuts ≡ reading (begun_at rule start held.bytes) bytes []) → start ≤ most_bytes →
         IsCutFile before after held rule start (Some cuts)
     whole_cut cuts c some = (
       c.0,
