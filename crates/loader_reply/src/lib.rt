@@ -20,6 +20,7 @@ mod rejects;
 mod reply;
 mod reply_text;
 mod replying;
+mod sampling;
 mod several;
 mod showing;
 mod sniffed_head;

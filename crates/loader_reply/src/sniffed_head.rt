@@ -13,7 +13,8 @@ ghost use Rattle.loader_reply.specs.Loading.{IsHead, IsFinding, IsSniffedHead};
 ghost use Rattle.loader_reply.specs.Reading.{schema_of};
 
 use crate::loader::Loader;
-use csv_sniffer::{Finding, sniff_input};
+use crate::sampling::sniff_bytes;
+use csv_sniffer::Finding;
 use csv_source::{NoMemory, Source};
 use load_options::Options;
 use std::alloc::Global;
@@ -33,15 +34,6 @@ fn reads_on(options: &Options, head: &InputWindow) -> bool
     ensures { IsTrue result → head.now.ended ≡ false }
 {
     options.threads > 1 && !options.pipeline && !head.ended()
-}
-
-/// Looks at the sample of an input's first bytes.
-pub fn sniff_bytes(alloc: Global, options: &Options, bytes: &[u8]) -> Result<Finding, NoMemory>
-    requires within { IsAccepted options.now }
-    ensures ok { IfOk result (IsFinding options.now bytes.now) }
-    ensures columns { IfOk result (λ finding. HasColumns (schema_of options.now finding.sniffed)) }
-{
-    sniff_input(alloc, options, bytes)
 }
 
 /// Looks at the sample of a head.

@@ -21,8 +21,8 @@ ghost use Rattle.loader_reply.specs.Splitting.{cut_rule, split_outcome, split_to
 use crate::further_words::further_words;
 use crate::loader::Loader;
 use crate::reply::Reply;
+use crate::sampling::sniff_bytes;
 use crate::split_head::{HEAD_LIMIT, SplitHead};
-use crate::sniffed_head::sniff_bytes;
 use csv_sniffer::{Finding, Sniffed};
 use csv_source::{NoMemory, Source};
 use file_split::{FilePiece, cut_file};

@@ -5,7 +5,7 @@ use Rattle.std.specs.declared.result.Result.TheVariants.{Ok, Err}
 use Rattle.csv_sniffer.specs.declared.finding.Finding.{Finding}
 use Rattle.csv_sniffer.specs.Input.{found, place_under}
 use Rattle.loader_reply.specs.Loading.{IsFinding}
-use Rattle.loader_reply.proofs.sniffed_head.sniff_bytes.Goals as goal
+use Rattle.loader_reply.proofs.sampling.sniff_bytes.Goals as goal
 
 -- what holds of an answer by three facts of it
 all_three : {T E : Type 0} (result : Result T E) (P Q R S : T → Type 0) → ((x : T) → P x → Q x → R x → S x) → IfOk result P → IfOk result Q → IfOk result R → IfOk result S
