@@ -10,6 +10,6 @@ size_within None all = (omega arith, omega arith)
 size_within (Some size) range = (range.0, range.1)
 
 pub returns-clause-within : goal.returns-clause-within
-returns-clause-within c =
+returns-clause-within g c =
     let size = size_within c.args.self.now.options.now.size c.requires.accepted.size in
     record { some = omega (arith, c.unwrap_or.ensures, size.0); most = omega (arith, c.unwrap_or.ensures, size.1) }
