@@ -54,8 +54,8 @@ module _ (first : FilePiece) (before : Option (List ℕ)) (start : Reading) wher
         reading (reading cuts front (drop n kept)) ys seen ≡ reading start ((so_far.gone ++ front) ++ ys) seen
     read_past seam ys seen more same =
         let all : (front ++ ys) ++ seen ≡ kept ++ more =
-            append_assoc front ys seen
-            ∙ (ap (λ (l : List ℕ). front ++ l) same ∙ (sym (append_assoc front (drop n kept) more) ∙ ap (λ (l : List ℕ). l ++ more) (take-append-drop n kept))) in
+        append_assoc front ys seen
+        ∙ (ap (λ (l : List ℕ). front ++ l) same ∙ (sym (append_assoc front (drop n kept) more) ∙ ap (λ (l : List ℕ). l ++ more) (take-append-drop n kept))) in
         added seam
         ∙ (so_far.read (front ++ ys) seen more all ∙ ap (λ (l : List ℕ). reading start l seen) (sym (append_assoc so_far.gone front ys)))
       where

@@ -53,7 +53,7 @@ module _ (skip : ℕ) (held : FilePiece) (came : List ℕ) (quiet : held.ended �
       ap (λ t. t || nat_le (start_of_sample skip front + sample_limit) HEAD_LIMIT) (le-leb (length input) HEAD_LIMIT (omega (arith, ap length all, ended.1)))
   within_head (within, inr far) =
       let start : start_of_sample skip front ≡ start_of_sample skip held.bytes =
-          ap (start_of_sample skip) (front_of within) ∙ start-more skip held.bytes (take (HEAD_LIMIT + 1 - length held.bytes) came) far in
+      ap (start_of_sample skip) (front_of within) ∙ start-more skip held.bytes (take (HEAD_LIMIT + 1 - length held.bytes) came) far in
       ap (λ t. nat_le (length input) HEAD_LIMIT || t) (le-leb (start_of_sample skip front + sample_limit) HEAD_LIMIT (omega (arith, start, far, within)))
       ∙ or-true (nat_le (length input) HEAD_LIMIT)
 

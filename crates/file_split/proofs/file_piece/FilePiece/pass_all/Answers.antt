@@ -22,7 +22,7 @@ loop-self-preserved g c =
     let before = left c.args.source.now in
     let going : ¬ (first.ended ≡ true) = λ e. (let still : c.loop-self.self.ended ≡ true = c.loop-self.invariant.stays e in let wrong : ⊥ = cc in wrong) in
     let gone = front_passed first before c.args.cuts.now (left c.loop-self.source) c.loop-self.cuts c.loop-self.self.bytes c.loop-self.invariant.passed
-        c.pass_front.new.cuts c.pass_front.new.self.bytes c.in_ok-pass_front.ensures.kept c.in_ok-pass_front.ensures.read c.in_ok-pass_front.ensures.bytes in
+    c.pass_front.new.cuts c.pass_front.new.self.bytes c.in_ok-pass_front.ensures.kept c.in_ok-pass_front.ensures.read c.in_ok-pass_front.ensures.bytes in
     let place : c.tally.result.bytes ≡ c.pass_front.new.cuts.tally.bytes = ap (λ (t : Tally). t.bytes) c.tally.ensures in
     let keeps : c.read_next.result ≡ Ok true = cc in
     record {
@@ -42,9 +42,9 @@ returns-then-not-branch-clause-ok g c =
     let before = left c.args.source.now in
     let going : ¬ (first.ended ≡ true) = λ e. (let still : c.loop-self.self.ended ≡ true = c.loop-self.invariant.stays e in let wrong : ⊥ = cc in wrong) in
     let gone = front_passed first before c.args.cuts.now (left c.loop-self.source) c.loop-self.cuts c.loop-self.self.bytes c.loop-self.invariant.passed
-        c.pass_front.new.cuts c.pass_front.new.self.bytes c.in_ok-pass_front.ensures.kept c.in_ok-pass_front.ensures.read c.in_ok-pass_front.ensures.bytes in
+    c.pass_front.new.cuts c.pass_front.new.self.bytes c.in_ok-pass_front.ensures.kept c.in_ok-pass_front.ensures.read c.in_ok-pass_front.ensures.bytes in
     let came = more_came first before c.args.cuts.now (left c.loop-self.source) c.pass_front.new.cuts c.pass_front.new.self.bytes gone
-        (left c.read_next.new.source) c.read_next.new.self.bytes going c.read_next.ensures.moved in
+    (left c.read_next.new.source) c.read_next.new.self.bytes going c.read_next.ensures.moved in
     let place : c.tally.result.bytes ≡ c.pass_front.new.cuts.tally.bytes = ap (λ (t : Tally). t.bytes) c.tally.ensures in
     let passes : c.read_next.result ≡ Ok false = cc in
     over_passed first before c.args.cuts.now (left c.read_next.new.source) c.pass_front.new.cuts c.read_next.new.self.bytes came
