@@ -1,15 +1,14 @@
 -- Pieces of a file that go through its cuts one after another.
-use Rattle.std.proofs.Common.{◌≡◌, ◌⊎◌, inl, inr, ℕ, ◌+◌, ◌-◌, ◌≤◌, Bool, true, false, List, [], ◌∷◌, ◌++◌, length, take, drop, Option, refl, sym, ◌∙◌, ap, arith, append-nil, append_assoc, length-append}
+use Rattle.std.proofs.Common.{◌≡◌, ◌⊎◌, inl, inr, ℕ, ◌+◌, ◌-◌, ◌≤◌, true, false, List, [], ◌∷◌, ◌++◌, length, take, drop, Option, refl, sym, ◌∙◌, ap, arith, append-nil, append_assoc, length-append}
 use Rattle.std.specs.Io.KnownBytes.{Consumes, IsAtEnd}
 use Rattle.std.proofs.KnownBytes.{Consumes-nil, Consumes-trans}
 use Rattle.std.proofs.lemmas.List.{take-append-drop, take-append-le, length-drop, length-take-le}
 use Rattle.csv_source.specs.Moves.{MovesFront}
-use Rattle.part_cuts.specs.Laws.{bytes_seen}
 use Rattle.part_cuts.specs.Reading.{Reading, reading}
 use Rattle.part_cuts.specs.Within.{most_bytes}
 use Rattle.part_cuts.proofs.ReadingLaws.{pieces_add_up}
 use Rattle.file_split.specs.declared.file_piece.FilePiece.{FilePiece}
-use Rattle.file_split.specs.WholeFile.{bytes_passed, ComesAll, ComesMore, IsPassed}
+use Rattle.file_split.specs.WholeFile.{bytes_passed, IsPassed}
 
 -- all bytes but two go through, or none do
 two_stay : (kept : List ℕ) → (take (bytes_passed kept) kept ≡ []) ⊎ (2 ≤ length (drop (bytes_passed kept) kept))

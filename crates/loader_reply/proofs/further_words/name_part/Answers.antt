@@ -1,4 +1,4 @@
-use Rattle.std.proofs.Common.{Some, None, sym, ◌∙◌, ap, take, arith}
+use Rattle.std.proofs.Common.{Some, None, sym, arith}
 use Rattle.std.proofs.lemmas.List.{take_all}
 use Rattle.std.proofs.lemmas.Str.Pattern.{split_once_first}
 use Rattle.loader_reply.proofs.further_words.name_part.Goals as goal

@@ -1,6 +1,5 @@
-use Rattle.std.proofs.Common.{◌≡◌, ◌≤◌, ◌∙◌, List, ℕ, None, ap, take, length, arith}
+use Rattle.std.proofs.Common.{◌≡◌, List, ℕ, None, ap, take, length, arith}
 use Rattle.std.proofs.lemmas.List.{length-take-le}
-use Rattle.byte_classes.specs.LineEnds.{line_ends}
 use Rattle.byte_classes.proofs.LineEndLaws.{line_ends-le}
 use Rattle.file_split.proofs.file_piece.FilePiece.begin.Goals as goal
 

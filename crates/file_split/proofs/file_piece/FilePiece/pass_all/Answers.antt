@@ -1,4 +1,4 @@
-use Rattle.std.proofs.Common.{◌≡◌, ◌+◌, ◌≤◌, ◌∙◌, Bool, true, false, Ok, [], length, refl, ap, ap₂, arith}
+use Rattle.std.proofs.Common.{◌≡◌, ◌≤◌, ◌∙◌, true, false, Ok, length, refl, ap, ap₂, arith}
 use Rattle.std.proofs.lemmas.List.{drop_all, take_all}
 use Rattle.part_cuts.specs.declared.tally.Tally.{Tally}
 use Rattle.part_cuts.specs.Reading.{reading}

@@ -1,4 +1,4 @@
-use Rattle.std.proofs.Common.{[], ◌∷◌, Err, ap, ◌∙◌, subst}
+use Rattle.std.proofs.Common.{[], ◌∷◌, Err, ap, ◌∙◌}
 use Rattle.std.proofs.lemmas.Result.{IfOk-weaker}
 use Rattle.load_options.specs.Texts.{word_at}
 use Rattle.part_cuts.specs.Within.{most_bytes}
