@@ -1,4 +1,10 @@
+pub mod CutReading
+pub mod CutRows
+pub mod Divisions
 pub mod EarlyRows
+pub mod PartReadings
+pub mod PlacedFaults
+pub mod PlacedTwice
 pub mod WrittenCells
 pub mod WrittenFound
 pub mod WrittenInput

@@ -1,5 +1,6 @@
 //! Laws over the definitions.
 ghost use Rattle.table_laws.specs.Laws.{WrittenTableIsWritten, WrittenTableReadsBack};
+ghost use Rattle.table_laws.specs.PartLaws.{CutsAreReadAlone, PartsAreReadAlone};
 
 /// A written table is a text of RFC 4180's grammar.
 pub fn written_table_is_written()
@@ -9,4 +10,14 @@ pub fn written_table_is_written()
 /// A written table reads back as the same names and the same table, and without a fault.
 pub fn written_table_reads_back()
     ensures { WrittenTableReadsBack }
+{}
+
+/// Behind a head, data that are cut are read on both sides of the cut alone.
+pub fn cuts_are_read_alone()
+    ensures { CutsAreReadAlone }
+{}
+
+/// Behind a head, what is read of the data is what is read of each of their parts alone.
+pub fn parts_are_read_alone()
+    ensures { PartsAreReadAlone }
 {}

@@ -1,0 +1,57 @@
+-- The laws of the parts of a file: what is read of each alone, behind the file's head, is what the file has there.
+use Rattle.std.specs.Prelude.{◌≡◌, ℕ, ◌+◌, ◌-◌, true, false, List, [], ◌++◌, length, map, flat_map, None, slice_range}
+use Rattle.std.specs.List.{last_or}
+use Rattle.byte_classes.specs.Dialect.{Marks}
+use Rattle.byte_classes.specs.LineEnds.{line_ends}
+use Rattle.quote_automaton.specs.declared.state.State.TheVariants.{RowStart}
+use Rattle.quote_automaton.specs.Automaton.{state_after}
+use Rattle.part_cuts.specs.declared.cut_rule.CutRule.{CutRule}
+use Rattle.part_cuts.specs.declared.part.Part.{Part}
+use Rattle.part_cuts.specs.Cut.{is_cut}
+use Rattle.part_cuts.specs.Part.{parts}
+use Rattle.part_cuts.specs.Reading.{reading, reading_from}
+use Rattle.value_types.specs.Datum.{Datum}
+use Rattle.reject_book.specs.declared.reject.Reject.{Reject}
+use Rattle.reject_book.specs.declared.reject.Schema.{Schema}
+use Rattle.reject_book.specs.Verdict.{Verdict, map_faults}
+use Rattle.csv_sniffer.specs.Pairs.{parts_pair}
+use Rattle.loader_reply.specs.Reading.{verdicts}
+
+-- a fault of a part as a fault of its file, in which the part stands so many physical lines and bytes further on
+abbrev pub placed : ℕ → ℕ → Reject → Reject
+placed lines bytes reject = record reject {
+  line = lines + reject.line;
+  line_byte_position = bytes + reject.line_byte_position;
+  byte_position = bytes + reject.byte_position;
+}
+
+abbrev pub all_placed : ℕ → ℕ → List (Verdict (List Datum) Reject) → List (Verdict (List Datum) Reject)
+all_placed lines bytes vs = map (map_faults (placed lines bytes)) vs
+
+-- behind a head, data that are cut are read as what stands before the cut and what stands behind it, each alone behind the head
+abbrev pub CutsAreReadAlone : Type 0
+CutsAreReadAlone = (file_id : ℕ) (d : Marks) (schema : Schema) (head front back : List ℕ) → is_cut d (state_after d RowStart front) back ≡ true →
+    verdicts file_id d schema (head ++ (front ++ back)) (length head)
+    ≡ verdicts file_id d schema (head ++ front) (length head)
+    ++ all_placed (line_ends (last_or None head) front) (length front) (verdicts file_id d schema (head ++ back) (length head))
+
+-- ---- all parts
+
+-- the parts of the data behind a head
+abbrev pub parts_of : CutRule → List ℕ → List ℕ → List Part
+parts_of rule head text = let r = reading (reading_from rule (length head) (line_ends None head)) text [] in parts r.starts r.tally
+
+-- the bytes of a part of an input
+abbrev pub part_bytes : List ℕ → Part → List ℕ
+part_bytes input part = slice_range input part.byte (part.byte + part.len)
+
+-- what is read of a part alone, behind the head, with its faults where they stand in the input
+abbrev pub part_verdicts : ℕ → Marks → Schema → List ℕ → List ℕ → Part → List (Verdict (List Datum) Reject)
+part_verdicts file_id d schema head input part =
+    all_placed (part.line - 1 - line_ends None head) (part.byte - length head) (verdicts file_id d schema (head ++ part_bytes input part) (length head))
+
+-- behind a head with which no CR LF is cut, what is read of the data is what is read of each part alone
+abbrev pub PartsAreReadAlone : Type 0
+PartsAreReadAlone = (file_id : ℕ) (rule : CutRule) (schema : Schema) (head text : List ℕ) → parts_pair (head ++ text) (length head) ≡ false →
+    verdicts file_id rule.dialect schema (head ++ text) (length head)
+    ≡ flat_map (part_verdicts file_id rule.dialect schema head (head ++ text)) (parts_of rule head text)
