@@ -2,7 +2,9 @@ pub mod CutReading
 pub mod CutRows
 pub mod Divisions
 pub mod EarlyRows
+pub mod InputParts
 pub mod PartReadings
+pub mod PartSums
 pub mod PlacedFaults
 pub mod PlacedTwice
 pub mod WrittenCells

@@ -1,5 +1,5 @@
 -- The laws of the parts of a file: what is read of each alone, behind the file's head, is what the file has there.
-use Rattle.std.specs.Prelude.{◌≡◌, ℕ, ◌+◌, ◌-◌, true, false, List, [], ◌++◌, length, map, flat_map, None, slice_range}
+use Rattle.std.specs.Prelude.{◌≡◌, ℕ, ◌+◌, ◌-◌, true, false, List, [], ◌++◌, length, take, drop, map, flat_map, None, slice_range}
 use Rattle.std.specs.List.{last_or}
 use Rattle.byte_classes.specs.Dialect.{Marks}
 use Rattle.byte_classes.specs.LineEnds.{line_ends}
@@ -9,13 +9,16 @@ use Rattle.part_cuts.specs.declared.cut_rule.CutRule.{CutRule}
 use Rattle.part_cuts.specs.declared.part.Part.{Part}
 use Rattle.part_cuts.specs.Cut.{is_cut}
 use Rattle.part_cuts.specs.Part.{parts}
-use Rattle.part_cuts.specs.Reading.{reading, reading_from}
+use Rattle.part_cuts.specs.Reading as cuts
 use Rattle.value_types.specs.Datum.{Datum}
 use Rattle.reject_book.specs.declared.reject.Reject.{Reject}
 use Rattle.reject_book.specs.declared.reject.Schema.{Schema}
 use Rattle.reject_book.specs.Verdict.{Verdict, map_faults}
+use Rattle.load_options.specs.declared.options.Options.{Options}
+use Rattle.csv_sniffer.specs.declared.found.Sniffed.{Sniffed}
+use Rattle.csv_sniffer.specs.Input.{found, data_place}
 use Rattle.csv_sniffer.specs.Pairs.{parts_pair}
-use Rattle.loader_reply.specs.Reading.{verdicts}
+use Rattle.loader_reply.specs.Reading.{reading, schema_of, verdicts, table_rows, faults}
 
 -- a fault of a part as a fault of its file, in which the part stands so many physical lines and bytes further on
 abbrev pub placed : ℕ → ℕ → Reject → Reject
@@ -39,19 +42,52 @@ CutsAreReadAlone = (file_id : ℕ) (d : Marks) (schema : Schema) (head front bac
 
 -- the parts of the data behind a head
 abbrev pub parts_of : CutRule → List ℕ → List ℕ → List Part
-parts_of rule head text = let r = reading (reading_from rule (length head) (line_ends None head)) text [] in parts r.starts r.tally
+parts_of rule head text = let r = cuts.reading (cuts.reading_from rule (length head) (line_ends None head)) text [] in parts r.starts r.tally
 
 -- the bytes of a part of an input
 abbrev pub part_bytes : List ℕ → Part → List ℕ
 part_bytes input part = slice_range input part.byte (part.byte + part.len)
 
+-- how many physical lines and bytes further on the part stands in the input than behind the head
+abbrev pub lines_before : List ℕ → Part → ℕ
+lines_before head part = part.line - 1 - line_ends None head
+
+abbrev pub bytes_before : List ℕ → Part → ℕ
+bytes_before head part = part.byte - length head
+
 -- what is read of a part alone, behind the head, with its faults where they stand in the input
 abbrev pub part_verdicts : ℕ → Marks → Schema → List ℕ → List ℕ → Part → List (Verdict (List Datum) Reject)
 part_verdicts file_id d schema head input part =
-    all_placed (part.line - 1 - line_ends None head) (part.byte - length head) (verdicts file_id d schema (head ++ part_bytes input part) (length head))
+    all_placed (lines_before head part) (bytes_before head part) (verdicts file_id d schema (head ++ part_bytes input part) (length head))
 
 -- behind a head with which no CR LF is cut, what is read of the data is what is read of each part alone
 abbrev pub PartsAreReadAlone : Type 0
 PartsAreReadAlone = (file_id : ℕ) (rule : CutRule) (schema : Schema) (head text : List ℕ) → parts_pair (head ++ text) (length head) ≡ false →
     verdicts file_id rule.dialect schema (head ++ text) (length head)
     ≡ flat_map (part_verdicts file_id rule.dialect schema head (head ++ text)) (parts_of rule head text)
+
+-- ---- the parts of an input
+
+-- what stands before the data of an input, and the data
+abbrev pub head_of : Options → List ℕ → List ℕ
+head_of o input = take (data_place o input (found o input)) input
+
+abbrev pub data_of : Options → List ℕ → List ℕ
+data_of o input = drop (data_place o input (found o input)) input
+
+-- by what the data are cut
+abbrev pub rule_of : Sniffed → ℕ → CutRule
+rule_of s size = record { dialect = s.dialect; size = size; columns = length s.types }
+
+abbrev pub input_parts : Options → List ℕ → ℕ → List Part
+input_parts o input size = parts_of (rule_of (found o input) size) (head_of o input) (data_of o input)
+
+-- the rows of an input are those that are read of its parts, end to end, and so are its faults, each where it stands in the input
+pub record AreOfParts (o : Options) (input : List ℕ) (all : List Part) (read : Part → List (Verdict (List Datum) Reject)) : Type 0 where
+  pub rows : table_rows (reading o input) ≡ flat_map (λ part. table_rows (read part)) all
+  pub faults : faults (reading o input) ≡ flat_map (λ part. map (placed (lines_before (head_of o input) part) (bytes_before (head_of o input) part)) (faults (read part))) all
+
+-- an input is read part by part, each alone behind the head, under what is found in the input
+abbrev pub InputsAreReadByParts : Type 0
+InputsAreReadByParts = (o : Options) (input : List ℕ) (size : ℕ) → let s = found o input in let head = head_of o input in
+    AreOfParts o input (input_parts o input size) (λ part. verdicts 0 s.dialect (schema_of o s) (head ++ part_bytes input part) (length head))

@@ -1,6 +1,6 @@
 //! Laws over the definitions.
 ghost use Rattle.table_laws.specs.Laws.{WrittenTableIsWritten, WrittenTableReadsBack};
-ghost use Rattle.table_laws.specs.PartLaws.{CutsAreReadAlone, PartsAreReadAlone};
+ghost use Rattle.table_laws.specs.PartLaws.{CutsAreReadAlone, InputsAreReadByParts, PartsAreReadAlone};
 
 /// A written table is a text of RFC 4180's grammar.
 pub fn written_table_is_written()
@@ -20,4 +20,10 @@ pub fn cuts_are_read_alone()
 /// Behind a head, what is read of the data is what is read of each of their parts alone.
 pub fn parts_are_read_alone()
     ensures { PartsAreReadAlone }
+{}
+
+/// An input is read part by part: its rows and faults are those that are read of each part alone, behind the head, under
+/// what is found in the input.
+pub fn inputs_are_read_by_parts()
+    ensures { InputsAreReadByParts }
 {}
