@@ -1,8 +1,12 @@
+pub mod AloneFound
+pub mod AloneParts
 pub mod CutReading
 pub mod CutRows
 pub mod Divisions
 pub mod EarlyRows
+pub mod HeadLines
 pub mod InputParts
+pub mod PartFollows
 pub mod PartReadings
 pub mod PartSums
 pub mod PlacedFaults

@@ -53,7 +53,17 @@ alike_at_start before (b ∷ text) apart (suc k) = by_lf (b == 10) refl apart wh
       no_cr false h = refl
   by_lf false is none = lines_alike before None b (take k text) is
 
-module _ (file_id : ℕ) (rule : CutRule) (schema : Schema) (head data_bytes : List ℕ) where
+-- the bytes between two places
+pub bytes_between : (rule : CutRule) (head text front piece back : List ℕ) → text ≡ front ++ (piece ++ back) →
+    part_bytes (head ++ text) (part_between (tally_of rule (length head) (line_ends None head) front) (tally_of rule (length head) (line_ends None head) (front ++ piece))) ≡ piece
+bytes_between rule head text front piece back is =
+    let n : ℕ = length head + length front in
+    let long = length-append front piece in
+    let count : n + ((length head + length (front ++ piece)) - n) - n ≡ length piece + 0 = omega (arith, long) in
+    let rest : drop n (head ++ text) ≡ piece ++ back = drop-append-add head text (length front) ∙ ap (drop (length front)) is ∙ drop-append_seam front (piece ++ back) in
+    (λ i. take (count i) (rest i)) ∙ take-append-add piece back 0 ∙ append-nil piece
+
+module _ (file_id : ℕ) (rule : CutRule) (schema : Schema) (head text_bytes : List ℕ) where
   abbrev d : Marks
   d = rule.dialect
 
@@ -64,34 +74,25 @@ module _ (file_id : ℕ) (rule : CutRule) (schema : Schema) (head data_bytes : L
   read text = verdicts file_id d schema (head ++ text) (length head)
 
   abbrev input : List ℕ
-  input = head ++ data_bytes
+  input = head ++ text_bytes
 
   abbrev part_read : Part → List (Verdict (List Datum) Reject)
   part_read = part_verdicts file_id d schema head input
 
-  -- the bytes between two places
-  bytes_between : (front piece back : List ℕ) → data_bytes ≡ front ++ (piece ++ back) → part_bytes input (part_between (begun front) (begun (front ++ piece))) ≡ piece
-  bytes_between front piece back is =
-      let n : ℕ = length head + length front in
-      let long = length-append front piece in
-      let count : n + ((length head + length (front ++ piece)) - n) - n ≡ length piece + 0 = omega (arith, long) in
-      let rest : drop n (head ++ data_bytes) ≡ piece ++ back = drop-append-add head data_bytes (length front) ∙ ap (drop (length front)) is ∙ drop-append_seam front (piece ++ back) in
-      (λ i. take (count i) (rest i)) ∙ take-append-add piece back 0 ∙ append-nil piece
-
   -- a part between two places
-  part_is : (front piece back : List ℕ) → data_bytes ≡ front ++ (piece ++ back) →
+  part_is : (front piece back : List ℕ) → text_bytes ≡ front ++ (piece ++ back) →
       part_read (part_between (begun front) (begun (front ++ piece))) ≡ all_placed (line_ends None front) (length front) (read piece)
   part_is front piece back is =
       let lines : line_ends None head + line_ends None front + 1 - 1 - line_ends None head ≡ line_ends None front = omega arith in
       let bytes : length head + length front - length head ≡ length front = omega arith in
-      λ i. all_placed (lines i) (bytes i) (read (bytes_between front piece back is i))
+      λ i. all_placed (lines i) (bytes i) (read (bytes_between rule head text_bytes front piece back is i))
 
   -- what is read from behind a front on is what is read of each of its parts
-  parts_read : (front text : List ℕ) (starts : List Tally) → Divides rule (length head) (line_ends None head) front text starts → data_bytes ≡ front ++ text →
+  parts_read : (front text : List ℕ) (starts : List Tally) → Divides rule (length head) (line_ends None head) front text starts → text_bytes ≡ front ++ text →
       EndsAlike (last_or None head) (last_or None front) text →
-      all_placed (line_ends None front) (length front) (read text) ≡ flat_map part_read (parts starts (begun data_bytes))
+      all_placed (line_ends None front) (length front) (read text) ≡ flat_map part_read (parts starts (begun text_bytes))
   parts_read front text starts (last f rest) is alike =
-      let whole : data_bytes ≡ f ++ (rest ++ []) = is ∙ ap (λ l. f ++ l) (sym (append-nil rest)) in
+      let whole : text_bytes ≡ f ++ (rest ++ []) = is ∙ ap (λ l. f ++ l) (sym (append-nil rest)) in
       sym (append-nil _ ∙ ap (λ l. part_read (part_between (begun f) (begun l))) is ∙ part_is f rest [] whole)
   parts_read front text starts (more f piece back later cut rest) is alike =
       let filled : IsFilledRow d (state_after d RowStart piece) back = filled_at_cut d (state_after d RowStart piece) back cut in
@@ -105,8 +106,8 @@ module _ (file_id : ℕ) (rule : CutRule) (schema : Schema) (head data_bytes : L
       ap (all_placed l (length f)) (cuts_are_read_alone file_id d schema head piece back cut)
       ∙ map-append _ (read piece) (all_placed own (length piece) (read back))
       ∙ ap (λ vs. all_placed l (length f) (read piece) ++ vs) (all_placed_twice l (length f) own (length piece) (read back) ∙ (λ i. all_placed (lines i) (bytes i) (read back)) ∙ on)
-      ∙ ap (λ vs. vs ++ flat_map part_read (parts later (begun data_bytes))) (sym (part_is f piece back is))
-      ∙ ap (flat_map part_read) (sym (parts_by_first rule (length head) (line_ends None head) (begun f) (begun data_bytes) (f ++ piece) back later rest))
+      ∙ ap (λ vs. vs ++ flat_map part_read (parts later (begun text_bytes))) (sym (part_is f piece back is))
+      ∙ ap (flat_map part_read) (sym (parts_by_first rule (length head) (line_ends None head) (begun f) (begun text_bytes) (f ++ piece) back later rest))
 
 pub parts_are_read_alone : PartsAreReadAlone
 parts_are_read_alone file_id rule schema head text apart =

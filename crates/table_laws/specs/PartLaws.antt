@@ -1,5 +1,5 @@
 -- The laws of the parts of a file: what is read of each alone, behind the file's head, is what the file has there.
-use Rattle.std.specs.Prelude.{◌≡◌, ℕ, ◌+◌, ◌-◌, true, false, List, [], ◌++◌, length, take, drop, map, flat_map, None, slice_range}
+use Rattle.std.specs.Prelude.{◌≡◌, ℕ, ◌+◌, ◌-◌, true, false, Some, List, [], ◌++◌, length, take, drop, map, flat_map, None, slice_range}
 use Rattle.std.specs.List.{last_or}
 use Rattle.byte_classes.specs.Dialect.{Marks}
 use Rattle.byte_classes.specs.LineEnds.{line_ends}
@@ -15,6 +15,8 @@ use Rattle.reject_book.specs.declared.reject.Reject.{Reject}
 use Rattle.reject_book.specs.declared.reject.Schema.{Schema}
 use Rattle.reject_book.specs.Verdict.{Verdict, map_faults}
 use Rattle.load_options.specs.declared.options.Options.{Options}
+use Rattle.load_options.specs.Accepted.{IsAccepted}
+use Rattle.dialect_rank.specs.Candidates.{with_dialect}
 use Rattle.csv_sniffer.specs.declared.found.Sniffed.{Sniffed}
 use Rattle.csv_sniffer.specs.Input.{found, data_place}
 use Rattle.csv_sniffer.specs.Pairs.{parts_pair}
@@ -91,3 +93,14 @@ pub record AreOfParts (o : Options) (input : List ℕ) (all : List Part) (read :
 abbrev pub InputsAreReadByParts : Type 0
 InputsAreReadByParts = (o : Options) (input : List ℕ) (size : ℕ) → let s = found o input in let head = head_of o input in
     AreOfParts o input (input_parts o input size) (λ part. verdicts 0 s.dialect (schema_of o s) (head ++ part_bytes input part) (length head))
+
+-- ---- the parts of an input, each loaded alone
+
+-- the options under which a part is loaded alone: dialect, header and types as found in the input, and no types by name
+abbrev pub alone : Options → Sniffed → Options
+alone o s = record (with_dialect o s.dialect) { header = Some s.header; types = s.types; column_types = record { names = []; types = [] }; all_varchar = false }
+
+-- each part of an input without a header is loaded alone, behind what is skipped, under what is found in the input
+abbrev pub BarePartsAreLoadedAlone : Type 0
+BarePartsAreLoadedAlone = (o : Options) (input : List ℕ) (size : ℕ) → IsAccepted o → (found o input).header ≡ false →
+    AreOfParts o input (input_parts o input size) (λ part. reading (alone o (found o input)) (head_of o input ++ part_bytes input part))

@@ -1,6 +1,6 @@
 //! Laws over the definitions.
 ghost use Rattle.table_laws.specs.Laws.{WrittenTableIsWritten, WrittenTableReadsBack};
-ghost use Rattle.table_laws.specs.PartLaws.{CutsAreReadAlone, InputsAreReadByParts, PartsAreReadAlone};
+ghost use Rattle.table_laws.specs.PartLaws.{BarePartsAreLoadedAlone, CutsAreReadAlone, InputsAreReadByParts, PartsAreReadAlone};
 
 /// A written table is a text of RFC 4180's grammar.
 pub fn written_table_is_written()
@@ -26,4 +26,10 @@ pub fn parts_are_read_alone()
 /// what is found in the input.
 pub fn inputs_are_read_by_parts()
     ensures { InputsAreReadByParts }
+{}
+
+/// Each part of an input without a header is loaded alone, behind what is skipped, under what is found in the input: its
+/// rows and faults, end to end, are those of the input.
+pub fn bare_parts_are_loaded_alone()
+    ensures { BarePartsAreLoadedAlone }
 {}

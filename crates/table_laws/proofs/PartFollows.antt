@@ -1,0 +1,117 @@
+-- What stands behind the head where a part is loaded alone: the part goes on as the data do.
+use Rattle.std.proofs.Common.{◌≡◌, ◌≢◌, ℕ, ◌+◌, ◌&&◌, not, Bool, true, false, List, [], ◌∷◌, ◌++◌, map, length, refl, sym, ◌∙◌, ap, subst, ◌⊎◌, inl, inr, drop, append_assoc}
+use Rattle.std.specs.Prelude.{Option, None, flat_map, nat_eq, ◌==◌}
+use Rattle.std.specs.List.{last_or, starts_with}
+use Rattle.std.proofs.lemmas.Bool.{and_parts, not-true, false_from_ne_true}
+use Rattle.std.proofs.lemmas.Bool.Decides.{Decides-eqb}
+use Rattle.std.proofs.lemmas.List.{append-nil}
+use Rattle.std.proofs.lemmas.Slice.Eq.{starts_is}
+use Rattle.byte_classes.specs.ByteOrderMark.{byte_order_mark}
+use Rattle.byte_classes.specs.Class.{class_of}
+use Rattle.byte_classes.specs.LineEnds.{line_ends}
+use Rattle.quote_automaton.specs.declared.state.State.{State}
+use Rattle.quote_automaton.specs.declared.state.State.TheVariants.{RowStart}
+use Rattle.quote_automaton.specs.Automaton.{state_after}
+use Rattle.part_cuts.specs.declared.cut_rule.CutRule.{CutRule}
+use Rattle.part_cuts.specs.declared.part.Part.{Part}
+use Rattle.part_cuts.specs.declared.tally.Tally.{Tally}
+use Rattle.part_cuts.specs.Cut.{begins_filled, is_cut}
+use Rattle.part_cuts.specs.Laws.{tally_of}
+use Rattle.part_cuts.specs.Part.{part_between, parts}
+use Rattle.value_types.specs.Datum.{Datum}
+use Rattle.reject_book.specs.declared.reject.Reject.{Reject}
+use Rattle.reject_book.specs.Verdict.{Verdict}
+use Rattle.csv_sniffer.proofs.LineStarts.{before_none, before_other}
+use Rattle.csv_sniffer.proofs.LineStarts as lines
+use Rattle.table_laws.specs.PartLaws.{part_bytes}
+use Rattle.table_laws.proofs.CutReading.{IsFilledRow, filled_at_cut}
+use Rattle.table_laws.proofs.Divisions.{Divides, last, more, parts_by_first}
+use Rattle.table_laws.proofs.HeadLines.{Follows}
+use Rattle.table_laws.proofs.PartReadings.{bytes_between}
+
+-- bytes that go on behind a head as its data do, and before which no byte order mark is made
+pub record GoesOn (head text other : List ℕ) : Type 0 where
+  pub follows : Follows (last_or None head) text other
+  pub bare : head ≡ [] → starts_with nat_eq other byte_order_mark ≡ false
+
+-- fewer bytes begin no mark
+pub front_bare : (xs ys : List ℕ) → starts_with nat_eq (xs ++ ys) byte_order_mark ≡ false → starts_with nat_eq xs byte_order_mark ≡ false
+front_bare xs ys none = false_from_ne_true _ (λ e.
+    let whole : xs ≡ 0xEF ∷ 0xBB ∷ 0xBF ∷ drop 3 xs = (starts_is Decides-eqb xs byte_order_mark (starts_with nat_eq xs byte_order_mark) refl).0 e in
+    let marked : starts_with nat_eq (xs ++ ys) byte_order_mark ≡ true = ap (λ l. starts_with nat_eq (l ++ ys) byte_order_mark) whole in
+    let no : false ≡ true = sym none ∙ marked in
+    let wrong : ⊥ = cc in wrong)
+
+-- a front of bytes that part no pair parts none
+front_apart : (o : Option ℕ) (xs ys : List ℕ) → lines.parts o (xs ++ ys) ≡ false → lines.parts o xs ≡ false
+front_apart o [] ys apart = before_none o
+front_apart o (x ∷ xs) ys apart = apart
+
+some_or_none : (xs ys text : List ℕ) → (xs ++ ys ≢ [] → text ≢ []) → (xs ≡ []) ⊎ (text ≢ [])
+some_or_none [] ys text h = inl refl
+some_or_none (x ∷ xs) ys text h = inr (h (λ e. let wrong : ⊥ = cc in wrong))
+
+-- a front of the data
+pub goes_at_start : (head text xs ys : List ℕ) → lines.parts (last_or None head) text ≡ false → (head ≡ [] → starts_with nat_eq text byte_order_mark ≡ false) → text ≡ xs ++ ys → GoesOn head text xs
+goes_at_start head text xs ys apart bare is = record {
+  follows = record {
+    apart = front_apart (last_or None head) xs ys (ap (lines.parts (last_or None head)) (sym is) ∙ apart);
+    some = some_or_none xs ys text (λ filled none. filled (sym is ∙ none));
+  };
+  bare = λ none. front_bare xs ys (ap (λ l. starts_with nat_eq l byte_order_mark) (sym is) ∙ bare none);
+}
+
+and_second : (a b : Bool) → (a && b) ≡ true → b ≡ true
+and_second true b h = h
+and_second false b h = absurd (let no : ⊥ = cc in no)
+
+bare_at_cut : (rule : CutRule) (s : State) (back : List ℕ) → is_cut rule.dialect s back ≡ true → starts_with nat_eq back byte_order_mark ≡ false
+bare_at_cut rule s [] cut = absurd (let no : ⊥ = cc in no)
+bare_at_cut rule s (b ∷ back) cut = not-true (starts_with nat_eq (b ∷ back) byte_order_mark) (and_second (begins_filled s (class_of rule.dialect b)) (not (starts_with nat_eq (b ∷ back) byte_order_mark)) cut)
+
+-- a front of what stands behind a cut
+goes_at_cut : (rule : CutRule) (s : State) (head text back xs ys : List ℕ) → is_cut rule.dialect s back ≡ true → (back ≢ [] → text ≢ []) → back ≡ xs ++ ys → GoesOn head text xs
+goes_at_cut rule s head text back xs ys cut filled is =
+    let f : IsFilledRow rule.dialect s back = filled_at_cut rule.dialect s back cut in
+    record {
+      follows = record {
+        apart = front_apart (last_or None head) xs ys (ap (lines.parts (last_or None head)) (sym is ∙ f.is) ∙ before_other (last_or None head) f.b f.rest f.filled);
+        some = some_or_none xs ys text (λ some. filled (λ none. some (sym is ∙ none)));
+      };
+      bare = λ none. front_bare xs ys (ap (λ l. starts_with nat_eq l byte_order_mark) (sym is) ∙ bare_at_cut rule s back cut);
+    }
+
+behind_some : (front back text : List ℕ) → text ≡ front ++ back → back ≢ [] → text ≢ []
+behind_some [] back text is some none = some (sym is ∙ none)
+behind_some (x ∷ front) back text is some none = let no : x ∷ (front ++ back) ≡ [] = sym is ∙ none in let wrong : ⊥ = cc in wrong
+
+-- two readings of the bytes of parts agree where they agree on what goes on behind the head
+module _ {V : Type 0} (rule : CutRule) (head text : List ℕ) (place : Part → List V → List V) (own read : List ℕ → List V) (same : (other : List ℕ) → GoesOn head text other → own other ≡ read other) where
+  abbrev begun : List ℕ → Tally
+  begun = tally_of rule (length head) (line_ends None head)
+
+  abbrev placed_by : (List ℕ → List V) → Part → List V
+  placed_by by part = place part (by (part_bytes (head ++ text) part))
+
+  one_part : (front piece back : List ℕ) → text ≡ front ++ (piece ++ back) → GoesOn head text piece →
+      let part = part_between (begun front) (begun (front ++ piece)) in placed_by own part ≡ placed_by read part
+  one_part front piece back is goes =
+      let part : Part = part_between (begun front) (begun (front ++ piece)) in
+      let bytes : part_bytes (head ++ text) part ≡ piece = bytes_between rule head text front piece back is in
+      ap (place part) (ap own bytes ∙ same piece goes ∙ ap read (sym bytes))
+
+  pub parts_agree : (front rest : List ℕ) (starts : List Tally) → Divides rule (length head) (line_ends None head) front rest starts → text ≡ front ++ rest →
+      ((xs ys : List ℕ) → rest ≡ xs ++ ys → GoesOn head text xs) → flat_map (placed_by own) (parts starts (begun text)) ≡ flat_map (placed_by read) (parts starts (begun text))
+  parts_agree front rest starts (last f back) is goes =
+      let whole : text ≡ f ++ (back ++ []) = is ∙ ap (λ l. f ++ l) (sym (append-nil back)) in
+      let one = one_part f back [] whole (goes back [] (sym (append-nil back))) in
+      ap (λ l. flat_map (placed_by own) (part_between (begun f) (begun l) ∷ [])) is
+      ∙ ap (λ vs. vs ++ []) one
+      ∙ sym (ap (λ l. flat_map (placed_by read) (part_between (begun f) (begun l) ∷ [])) is)
+  parts_agree front rest starts (more f piece back later cut divides) is goes =
+      let on = parts_agree (f ++ piece) back later divides (is ∙ sym (append_assoc f piece back))
+      (λ xs ys at. goes_at_cut rule (state_after rule.dialect RowStart piece) head text back xs ys cut (behind_some (f ++ piece) back text (is ∙ sym (append_assoc f piece back))) at) in
+      let split = parts_by_first rule (length head) (line_ends None head) (begun f) (begun text) (f ++ piece) back later divides in
+      ap (flat_map (placed_by own)) split
+      ∙ (λ i. one_part f piece back is (goes piece back refl) i ++ on i)
+      ∙ sym (ap (flat_map (placed_by read)) split)
