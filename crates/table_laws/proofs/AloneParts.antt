@@ -1,35 +1,43 @@
--- Each part of an input without a header is loaded alone.
-use Rattle.std.proofs.Common.{◌≡◌, ℕ, ◌+◌, Bool, false, List, [], ◌++◌, map, length, take, drop, refl, sym, ◌∙◌, ap, subst, arith}
-use Rattle.std.specs.Prelude.{None, flat_map, nat_eq}
+-- Each part of an input is loaded alone.
+use Rattle.std.proofs.Common.{◌≡◌, ◌≢◌, ◌⊎◌, ℕ, ◌+◌, Bool, false, List, [], ◌∷◌, ◌++◌, map, length, take, drop, refl, sym, ◌∙◌, ap, subst, arith, append_assoc, length-append}
+use Rattle.std.specs.Prelude.{Option, None, flat_map, nat_eq}
 use Rattle.std.specs.List.{last_or, starts_with}
-use Rattle.std.proofs.Math.Seq.{take-append_seam, drop-append_seam}
+use Rattle.std.proofs.lemmas.List.{take-append-drop}
+use Rattle.std.proofs.Math.Seq.{drop-append_seam, take-append-add, drop-append-add}
 use Rattle.byte_classes.specs.ByteOrderMark.{byte_order_mark}
 use Rattle.byte_classes.specs.LineEnds.{line_ends}
+use Rattle.byte_classes.proofs.LineEndLaws.{last_or-append}
 use Rattle.load_options.specs.declared.options.Options.{Options}
 use Rattle.load_options.specs.Accepted.{IsAccepted}
 use Rattle.part_cuts.specs.declared.cut_rule.CutRule.{CutRule}
 use Rattle.part_cuts.specs.declared.part.Part.{Part}
 use Rattle.part_cuts.specs.Part.{parts}
 use Rattle.part_cuts.proofs.StartLaws.{all_is_counted}
-use Rattle.dialect_rank.specs.Sampled.{sampled_spans}
 use Rattle.csv_sniffer.specs.declared.found.Sniffed.{Sniffed}
 use Rattle.csv_sniffer.specs.Input.{found, data_place}
 use Rattle.csv_sniffer.specs.Sample.{start_of_sample, sample_of, is_whole}
-use Rattle.csv_sniffer.specs.Sniffed.{behind_row, first_if}
+use Rattle.csv_sniffer.specs.Sniffed.{sniffed}
 use Rattle.csv_sniffer.proofs.LineStarts as lines
 use Rattle.value_types.specs.Datum.{Datum}
 use Rattle.reject_book.specs.declared.reject.Reject.{Reject}
 use Rattle.reject_book.specs.Verdict.{Verdict}
 use Rattle.loader_reply.specs.Reading.{reading, schema_of, verdicts, table_rows, faults}
-use Rattle.table_laws.specs.PartLaws.{all_placed, alone, part_bytes, part_verdicts, head_of, data_of, rule_of, input_parts, lines_before, bytes_before, BarePartsAreLoadedAlone}
-use Rattle.table_laws.proofs.AloneFound.{IsBare, found_alone}
+use Rattle.table_laws.specs.PartLaws.{all_placed, alone, part_bytes, part_verdicts, head_of, data_of, rule_of, input_parts, lines_before, bytes_before, PartsAreLoadedAlone}
+use Rattle.table_laws.proofs.AloneFound.{IsFoundAlone, found_alone}
 use Rattle.table_laws.proofs.Divisions.{division}
-use Rattle.table_laws.proofs.HeadLines.{Follows, SampleBegins, sample_begins}
-use Rattle.table_laws.proofs.InputParts.{halves, read_by_parts}
+use Rattle.table_laws.proofs.HeadLines.{Follows, SampleBegins, sample_begins, follow_on, bare_again}
+use Rattle.table_laws.proofs.HeadTaken.{HeadEnd, head_end, takes_header, front_ends, front_long}
+use Rattle.table_laws.proofs.InputParts.{halves, no_pair, read_by_parts}
 use Rattle.table_laws.proofs.PartFollows.{GoesOn, goes_at_start, parts_agree}
+use Rattle.table_laws.proofs.PartReadings.{no_pair_behind}
 use Rattle.table_laws.proofs.PartSums.{rows_of_all, faults_of_all}
 
-module _ (o : Options) (input : List ℕ) (accepted : IsAccepted o) (bare : (found o input).header ≡ false) where
+-- what stands before a line matters where the line is empty alone
+near_apart : (o : Option ℕ) (line other : List ℕ) → lines.parts (last_or o line) other ≡ false → lines.parts (last_or None line) other ≡ false
+near_apart o [] other apart = refl
+near_apart o (x ∷ line) other apart = apart
+
+module _ (o : Options) (input : List ℕ) (accepted : IsAccepted o) where
   abbrev s : Sniffed
   s = found o input
 
@@ -39,39 +47,79 @@ module _ (o : Options) (input : List ℕ) (accepted : IsAccepted o) (bare : (fou
   abbrev text : List ℕ
   text = data_of o input
 
-  abbrev behind : List ℕ
-  behind = drop (start_of_sample o.skip input) input
-
   b : SampleBegins o.skip input
   b = sample_begins o.skip input
 
-  no_row : s.data_start ≡ 0
-  no_row = ap (λ h. behind_row (sample_of behind) (first_if h (sampled_spans s.dialect (sample_of behind) (is_whole behind) o.sample_size))) bare
+  -- what stands behind that which is skipped: the last part of the head, and the data
+  abbrev behind : List ℕ
+  behind = drop (start_of_sample o.skip input) input
 
-  place_is : data_place o input s ≡ length b.front
-  place_is = omega (arith, b.start, no_row)
+  behind_is : behind ≡ b.rest
+  behind_is = (λ i. drop (b.start i) (b.is i)) ∙ drop-append_seam b.front b.rest
 
-  head_is : head ≡ b.front
-  head_is = (λ i. take (place_is i) (b.is i)) ∙ take-append_seam b.front b.rest
+  abbrev line : List ℕ
+  line = take s.data_start behind
 
-  text_is : text ≡ b.rest
-  text_is = (λ i. drop (place_is i) (b.is i)) ∙ drop-append_seam b.front b.rest
+  head_is : head ≡ b.front ++ line
+  head_is = (λ i. take (b.start i + s.data_start) (b.is i)) ∙ take-append-add b.front b.rest s.data_start ∙ ap (λ l. b.front ++ take s.data_start l) (sym behind_is)
+
+  text_is : text ≡ drop s.data_start behind
+  text_is = (λ i. drop (b.start i + s.data_start) (b.is i)) ∙ drop-append-add b.front b.rest s.data_start ∙ ap (drop s.data_start) (sym behind_is)
+
+  rest_is : b.rest ≡ line ++ text
+  rest_is = sym behind_is ∙ sym (take-append-drop s.data_start behind) ∙ ap (λ l. line ++ l) (sym text_is)
+
+  last_is : last_or None head ≡ last_or (last_or None b.front) line
+  last_is = ap (last_or None) head_is ∙ last_or-append None b.front line
+
+  end : HeadEnd o behind
+  end = head_end o behind
+
+  nothing_before : b.front ≡ [] → line ≡ [] → head ≡ []
+  nothing_before first second = head_is ∙ (λ i. first i ++ second i)
+
+  bare_line : b.front ≡ [] → starts_with nat_eq (line ++ text) byte_order_mark ≡ false
+  bare_line none = ap (λ l. starts_with nat_eq l byte_order_mark) (sym rest_is) ∙ b.bare none
 
   goes_first : (xs ys : List ℕ) → text ≡ xs ++ ys → GoesOn head text xs
   goes_first xs ys is =
-      goes_at_start head text xs ys ((λ i. lines.parts (last_or None (head_is i)) (text_is i)) ∙ b.apart)
-      (λ none. ap (λ l. starts_with nat_eq l byte_order_mark) text_is ∙ b.bare (sym head_is ∙ none)) is
+      goes_at_start head text xs ys (no_pair_behind head text (no_pair o input))
+      (λ none. ap (λ l. starts_with nat_eq l byte_order_mark) (sym (ap (λ l. l ++ text) (no_line none))) ∙ bare_line (no_front none)) is
+    where
+      no_front : head ≡ [] → b.front ≡ []
+      no_front none = first_none b.front line (sym head_is ∙ none) where
+        first_none : (xs ys : List ℕ) → xs ++ ys ≡ [] → xs ≡ []
+        first_none [] ys h = refl
+        first_none (x ∷ xs) ys h = absurd (let no : ⊥ = cc in no)
+
+      no_line : head ≡ [] → line ≡ []
+      no_line none = second_none b.front line (sym head_is ∙ none) where
+        second_none : (xs ys : List ℕ) → xs ++ ys ≡ [] → ys ≡ []
+        second_none [] ys h = h
+        second_none (x ∷ xs) ys h = absurd (let no : ⊥ = cc in no)
 
   -- a part is read alone as it is read under what was found
   read_alone : (other : List ℕ) → GoesOn head text other → reading (alone o s) (head ++ other) ≡ verdicts 0 s.dialect (schema_of o s) (head ++ other) (length head)
   read_alone other goes =
       let y : List ℕ = head ++ other in
-      let rest : List ℕ = drop (start_of_sample o.skip y) y in
-      let follows : Follows (last_or None b.front) b.rest other = subst (λ h. Follows (last_or None h) b.rest other) head_is (subst (λ t. Follows (last_or None head) t other) text_is goes.follows) in
-      let start : start_of_sample o.skip y ≡ length head =
-      ap (λ h. start_of_sample o.skip (h ++ other)) head_is ∙ b.again other follows (λ none. goes.bare (head_is ∙ none)) ∙ sym (ap length head_is) in
-      let f : IsBare (found (alone o s) y) s = found_alone o (sample_of behind) (is_whole behind) accepted bare (sample_of rest) (is_whole rest) in
-      let at : start_of_sample o.skip y + (found (alone o s) y).data_start ≡ length head = omega (arith, start, f.start) in
+      let split : y ≡ b.front ++ (line ++ other) = ap (λ h. h ++ other) head_is ∙ append_assoc b.front line other in
+      let follows : Follows (last_or (last_or None b.front) line) text other = subst (λ c. Follows c text other) last_is goes.follows in
+      let on : Follows (last_or None b.front) b.rest (line ++ other) = follow_on (last_or None b.front) line text other b.rest rest_is b.apart follows in
+      let ends = front_ends o behind end in
+      let bare : b.front ≡ [] → starts_with nat_eq (line ++ other) byte_order_mark ≡ false =
+      λ none. bare_again line (drop s.data_start behind) other (ap (λ l. starts_with nat_eq (line ++ l) byte_order_mark) (sym text_is) ∙ bare_line none) (subst (λ (t : List ℕ). (other ≡ []) ⊎ (t ≢ [])) text_is follows.some) ends
+      (λ empty. goes.bare (nothing_before none empty)) in
+      let start : start_of_sample o.skip y ≡ length b.front = ap (start_of_sample o.skip) split ∙ b.again (line ++ other) on bare in
+      let rest : drop (start_of_sample o.skip y) y ≡ line ++ other = (λ i. drop (start i) (split i)) ∙ drop-append_seam b.front (line ++ other) in
+      let near : Follows (last_or None line) (drop s.data_start behind) other =
+      record { apart = near_apart (last_or None b.front) line other follows.apart; some = subst (λ (t : List ℕ). (other ≡ []) ⊎ (t ≢ [])) text_is follows.some } in
+      let line_long = front_long o behind in
+      let own : IsFoundAlone (sniffed (alone o s) (sample_of (line ++ other)) (is_whole (line ++ other))) s =
+      found_alone o (sample_of behind) (is_whole behind) accepted (sample_of (line ++ other)) (is_whole (line ++ other)) (takes_header o behind other end near) in
+      let f : IsFoundAlone (found (alone o s) y) s = subst (λ l. IsFoundAlone (sniffed (alone o s) (sample_of l) (is_whole l)) s) (sym rest) own in
+      let long = length-append b.front line in
+      let whole = ap length head_is in
+      let at : start_of_sample o.skip y + (found (alone o s) y).data_start ≡ length head = omega (arith, start, f.start, long, whole, line_long) in
       λ i. verdicts 0 (f.dialect i) (record {
         names = f.names i;
         types = f.types i;
@@ -97,11 +145,11 @@ module _ (o : Options) (input : List ℕ) (accepted : IsAccepted o) (bare : (fou
       ∙ sym agree
       ∙ (λ i. flat_map (λ part. placed_part part (reading (alone o s) (head ++ part_bytes (halves o input i) part))) (parts (sym div.1 i) (sym counted i)))
 
-pub bare_parts_are_loaded_alone : BarePartsAreLoadedAlone
-bare_parts_are_loaded_alone o input size accepted bare =
+pub parts_are_loaded_alone : PartsAreLoadedAlone
+parts_are_loaded_alone o input size accepted =
     let head : List ℕ = head_of o input in
     let read = λ (part : Part). reading (alone o (found o input)) (head ++ part_bytes input part) in
     record {
-      rows = ap table_rows (loaded_alone o input accepted bare size) ∙ rows_of_all (lines_before head) (bytes_before head) read (input_parts o input size);
-      faults = ap faults (loaded_alone o input accepted bare size) ∙ faults_of_all (lines_before head) (bytes_before head) read (input_parts o input size);
+      rows = ap table_rows (loaded_alone o input accepted size) ∙ rows_of_all (lines_before head) (bytes_before head) read (input_parts o input size);
+      faults = ap faults (loaded_alone o input accepted size) ∙ faults_of_all (lines_before head) (bytes_before head) read (input_parts o input size);
     }

@@ -123,7 +123,7 @@ line_left before (b ∷ bytes) apart = by_lf (b == 10) refl (line_left (Some b) 
   }
   by_lf false e rest = by_cr (b == 13) e refl rest
 
-ascii_behind : (front more : List ℕ) → EndsAscii more → EndsAscii (front ++ more)
+pub ascii_behind : (front more : List ℕ) → EndsAscii more → EndsAscii (front ++ more)
 ascii_behind [] more ends = ends
 ascii_behind (b ∷ front) more ends = ends_behind b (front ++ more) (ascii_behind front more ends)
 
@@ -171,7 +171,7 @@ marked_by (a ∷ (b ∷ [])) (c, is, below) rest other none some =
     omega (arith, second, same, below)
 marked_by (a ∷ (b ∷ (e ∷ front))) ends rest other none some = let no : ⊥ = cc in no
 
-bare_again : (front rest other : List ℕ) → starts_with nat_eq (front ++ rest) byte_order_mark ≡ false → (other ≡ []) ⊎ (rest ≢ []) → ((true ≡ true) × (front ≡ [])) ⊎ ((rest ≡ []) ⊎ EndsAscii front) →
+pub bare_again : (front rest other : List ℕ) → starts_with nat_eq (front ++ rest) byte_order_mark ≡ false → (other ≡ []) ⊎ (rest ≢ []) → ((true ≡ true) × (front ≡ [])) ⊎ ((rest ≡ []) ⊎ EndsAscii front) →
     (front ≡ [] → starts_with nat_eq other byte_order_mark ≡ false) → starts_with nat_eq (front ++ other) byte_order_mark ≡ false
 bare_again front rest other bare some (inl (t, nil)) none = ap (λ f. starts_with nat_eq (f ++ other) byte_order_mark) nil ∙ none nil
 bare_again front rest other bare (inl nothing) (inr (inl empty)) none = ap (λ o. starts_with nat_eq (front ++ o) byte_order_mark) (nothing ∙ sym empty) ∙ bare

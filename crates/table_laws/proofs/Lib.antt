@@ -4,7 +4,11 @@ pub mod CutReading
 pub mod CutRows
 pub mod Divisions
 pub mod EarlyRows
+pub mod HeadFirst
 pub mod HeadLines
+pub mod HeadRow
+pub mod HeadSample
+pub mod HeadTaken
 pub mod InputParts
 pub mod PartFollows
 pub mod PartReadings

@@ -43,7 +43,7 @@ front_bare xs ys none = false_from_ne_true _ (λ e.
     let wrong : ⊥ = cc in wrong)
 
 -- a front of bytes that part no pair parts none
-front_apart : (o : Option ℕ) (xs ys : List ℕ) → lines.parts o (xs ++ ys) ≡ false → lines.parts o xs ≡ false
+pub front_apart : (o : Option ℕ) (xs ys : List ℕ) → lines.parts o (xs ++ ys) ≡ false → lines.parts o xs ≡ false
 front_apart o [] ys apart = before_none o
 front_apart o (x ∷ xs) ys apart = apart
 

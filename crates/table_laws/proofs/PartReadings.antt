@@ -109,14 +109,16 @@ module _ (file_id : ℕ) (rule : CutRule) (schema : Schema) (head text_bytes : L
       ∙ ap (λ vs. vs ++ flat_map part_read (parts later (begun text_bytes))) (sym (part_is f piece back is))
       ∙ ap (flat_map part_read) (sym (parts_by_first rule (length head) (line_ends None head) (begun f) (begun text_bytes) (f ++ piece) back later rest))
 
+-- a place that parts no pair, by what stands before and behind it
+pub no_pair_behind : (head text : List ℕ) → parts_pair (head ++ text) (length head) ≡ false → (is_byte (last_or None head) 13 && opens_with_lf text) ≡ false
+no_pair_behind head text apart = (λ i. is_byte (last_or None (sym (take-append_seam head text) i)) 13 && opens_with_lf (sym (drop-append_seam head text) i)) ∙ apart
+
 pub parts_are_read_alone : PartsAreReadAlone
 parts_are_read_alone file_id rule schema head text apart =
     let n : ℕ = length head in
     let lines : ℕ = line_ends None head in
     let r : Reading = reading (reading_from rule n lines) text [] in
     let div = division rule n lines text in
-    let before : (is_byte (last_or None head) 13 && opens_with_lf text) ≡ false =
-    (λ i. is_byte (last_or None (sym (take-append_seam head text) i)) 13 && opens_with_lf (sym (drop-append_seam head text) i)) ∙ apart in
     sym (all_placed_here _)
-    ∙ parts_read file_id rule schema head text [] text div.0 div.2 refl (alike_at_start (last_or None head) text before)
+    ∙ parts_read file_id rule schema head text [] text div.0 div.2 refl (alike_at_start (last_or None head) text (no_pair_behind head text apart))
     ∙ (λ i. flat_map (part_verdicts file_id rule.dialect schema head (head ++ text)) (parts (sym div.1 i) (sym (all_is_counted rule n lines text) i)))

@@ -54,7 +54,7 @@ pub record IsHeaded (s : Sniffed) (d : Marks) (ns : List (List ℕ)) (tys : List
   pub types : s.types ≡ tys
   pub data_start : s.data_start ≡ start
 
-module _ (o : Options) (tys : List ColumnType) (r : ReadsWritten o tys) (some : 1 ≤ length tys) (d : Marks) (sample : List ℕ) (whole : Bool) (spans : List Span) (n : ℕ) (first : FirstRow sample whole spans n) where
+module _ (o : Options) (tys : List ColumnType) (r : ReadsWritten o tys) (some : 1 ≤ length tys) (d : Marks) (sample : List ℕ) (whole : Bool) (spans : List Span) (n : ℕ) (first : FirstRow sample whole spans (0, n)) where
   columns_are : (mode : ℕ) → column_count o mode ≡ length tys
   columns_are mode =
       (λ i. cond (not (is_empty (r.names i))) (length (r.names i)) (cond (not (is_empty (r.types i))) (length (r.types i)) (max mode 1)))
@@ -96,7 +96,7 @@ module _ (o : Options) (tys : List ColumnType) (r : ReadsWritten o tys) (some : 
       }
 
 pub sniffed_headed : (o : Options) (tys : List ColumnType) → ReadsWritten o tys → 1 ≤ length tys → (sample : List ℕ) (whole : Bool) (n : ℕ) →
-    FirstRow sample whole (sampled_spans csv_marks sample whole o.sample_size) n →
+    FirstRow sample whole (sampled_spans csv_marks sample whole o.sample_size) (0, n) →
     IsHeaded (sniffed o sample whole) csv_marks (made_different [] (map (wanted_name csv_marks (Some (span_bytes sample (0, n)))) (range_with_len 0 (length tys)))) tys (behind_row sample (Some (0, n)))
 sniffed_headed o tys r some sample whole n first =
     let ns : List (List ℕ) = made_different [] (map (wanted_name csv_marks (Some (span_bytes sample (0, n)))) (range_with_len 0 (length tys))) in

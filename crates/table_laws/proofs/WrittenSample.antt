@@ -45,42 +45,42 @@ first_filled d (x ∷ xs) more some r =
 -- ---- the sampled rows
 
 -- the first row is sampled, and is whole
-pub record FirstRow (sample : List ℕ) (whole : Bool) (spans : List Span) (n : ℕ) : Type 0 where
+pub record FirstRow (sample : List ℕ) (whole : Bool) (spans : List Span) (first : Span) : Type 0 where
   pub more : List Span
-  pub is : spans ≡ (0, n) ∷ more
+  pub is : spans ≡ first ∷ more
   pub whole_row : has_whole_row sample whole spans ≡ true
 
-uncut : (sample : List ℕ) (whole : Bool) (spans more : List Span) (n : ℕ) → spans ≡ (0, n) ∷ more → is_last_cut sample whole spans ≡ false → FirstRow sample whole spans n
-uncut sample whole spans more n is cut = record {
+uncut : (sample : List ℕ) (whole : Bool) (spans more : List Span) (first : Span) → spans ≡ first ∷ more → is_last_cut sample whole spans ≡ false → FirstRow sample whole spans first
+uncut sample whole spans more first is cut = record {
   more = more;
   is = is;
   whole_row = (λ i. not (is_empty (is i)) && not (cut i));
 }
 
-cut_rows : (sample : List ℕ) (whole : Bool) (n : ℕ) (more : List Span) → n < length sample → EndEarly (length sample) ((0, n) ∷ more) → FirstRow sample whole (without_last ((0, n) ∷ more)) n
-cut_rows sample whole n [] inside early =
-    uncut sample whole ((0, n) ∷ []) [] n refl (ap (λ t. not whole && t) (ne_eqb n (length sample) (λ e. omega (arith, e, inside))) ∙ and-false (not whole))
-cut_rows sample whole n (next ∷ more) inside early =
-    let spans : List Span = (0, n) ∷ (next ∷ more) in
+cut_rows : (sample : List ℕ) (whole : Bool) (first : Span) (more : List Span) → first.1 < length sample → EndEarly (length sample) (first ∷ more) → FirstRow sample whole (without_last (first ∷ more)) first
+cut_rows sample whole first [] inside early =
+    uncut sample whole (first ∷ []) [] first refl (ap (λ t. not whole && t) (ne_eqb first.1 (length sample) (λ e. omega (arith, e, inside))) ∙ and-false (not whole))
+cut_rows sample whole first (next ∷ more) inside early =
+    let spans : List Span = first ∷ (next ∷ more) in
     let several : nat_lt 1 (length spans) ≡ true = lt-ltb 1 (length spans) (omega arith) in
     let less : length spans - 1 ≡ suc (length more) = omega arith in
     let is : without_last spans ≡ take (length spans - 1) spans = ap (λ t. cond t (take (length spans - 1) spans) spans) several in
-    uncut sample whole (without_last spans) (take (length more) (next ∷ more)) n (is ∙ ap (λ k. take k spans) less)
+    uncut sample whole (without_last spans) (take (length more) (next ∷ more)) first (is ∙ ap (λ k. take k spans) less)
     (ap (is_last_cut sample whole) is ∙ ap (λ t. not whole && t) (without_last-early (length sample) spans early) ∙ and-false (not whole))
 
-sampled : (sample : List ℕ) (whole : Bool) (n : ℕ) (spans more : List Span) → spans ≡ (0, n) ∷ more → n < length sample → EndEarly (length sample) spans →
-    FirstRow sample whole (cond (is_last_cut sample whole spans) (without_last spans) spans) n
-sampled sample whole n spans more is inside early = by_cut (is_last_cut sample whole spans) refl where
-  by_cut : (t : Bool) → is_last_cut sample whole spans ≡ t → FirstRow sample whole (cond t (without_last spans) spans) n
-  by_cut true cut = subst (λ s. FirstRow sample whole (without_last s) n) (sym is) (cut_rows sample whole n more inside (subst (EndEarly (length sample)) is early))
-  by_cut false cut = uncut sample whole spans more n is cut
+pub sampled : (sample : List ℕ) (whole : Bool) (first : Span) (spans more : List Span) → spans ≡ first ∷ more → first.1 < length sample → EndEarly (length sample) spans →
+    FirstRow sample whole (cond (is_last_cut sample whole spans) (without_last spans) spans) first
+sampled sample whole first spans more is inside early = by_cut (is_last_cut sample whole spans) refl where
+  by_cut : (t : Bool) → is_last_cut sample whole spans ≡ t → FirstRow sample whole (cond t (without_last spans) spans) first
+  by_cut true cut = subst (λ s. FirstRow sample whole (without_last s) first) (sym is) (cut_rows sample whole first more inside (subst (EndEarly (length sample)) is early))
+  by_cut false cut = uncut sample whole spans more first is cut
 
 pub first_row : (d : Marks) (row more : List ℕ) (whole : Bool) (size : ℕ) → row ≢ [] → RowRead d RowStart row → 1 ≤ size →
-    FirstRow (row ++ 10 ∷ more) whole (sampled_spans d (row ++ 10 ∷ more) whole size) (length row)
+    FirstRow (row ++ 10 ∷ more) whole (sampled_spans d (row ++ 10 ∷ more) whole size) (0, length row)
 first_row d row more whole zero some r asked = absurd (let no : ⊥ = omega (arith, asked) in no)
 first_row d row more whole (suc size) some r asked =
     let sample : List ℕ = row ++ 10 ∷ more in
     let first = first_filled d row more some r in
-    sampled sample whole (length row) (take (suc size) (filled_rows d sample)) (take size first.0) (ap (take (suc size)) first.1)
+    sampled sample whole (0, length row) (take (suc size) (filled_rows d sample)) (take size first.0) (ap (take (suc size)) first.1)
     (omega (arith, length-append row (10 ∷ more)))
     (early-take (length sample) (suc size) (filled_rows d sample) (early-rows d sample))

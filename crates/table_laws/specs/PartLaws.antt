@@ -100,7 +100,7 @@ InputsAreReadByParts = (o : Options) (input : List ℕ) (size : ℕ) → let s =
 abbrev pub alone : Options → Sniffed → Options
 alone o s = record (with_dialect o s.dialect) { header = Some s.header; types = s.types; column_types = record { names = []; types = [] }; all_varchar = false }
 
--- each part of an input without a header is loaded alone, behind what is skipped, under what is found in the input
-abbrev pub BarePartsAreLoadedAlone : Type 0
-BarePartsAreLoadedAlone = (o : Options) (input : List ℕ) (size : ℕ) → IsAccepted o → (found o input).header ≡ false →
+-- the rows of an input are those of its parts, each loaded alone behind the head, end to end, and so are its faults
+abbrev pub PartsAreLoadedAlone : Type 0
+PartsAreLoadedAlone = (o : Options) (input : List ℕ) (size : ℕ) → IsAccepted o →
     AreOfParts o input (input_parts o input size) (λ part. reading (alone o (found o input)) (head_of o input ++ part_bytes input part))

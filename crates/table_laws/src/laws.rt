@@ -1,6 +1,6 @@
 //! Laws over the definitions.
 ghost use Rattle.table_laws.specs.Laws.{WrittenTableIsWritten, WrittenTableReadsBack};
-ghost use Rattle.table_laws.specs.PartLaws.{BarePartsAreLoadedAlone, CutsAreReadAlone, InputsAreReadByParts, PartsAreReadAlone};
+ghost use Rattle.table_laws.specs.PartLaws.{CutsAreReadAlone, InputsAreReadByParts, PartsAreLoadedAlone, PartsAreReadAlone};
 
 /// A written table is a text of RFC 4180's grammar.
 pub fn written_table_is_written()
@@ -28,8 +28,8 @@ pub fn inputs_are_read_by_parts()
     ensures { InputsAreReadByParts }
 {}
 
-/// Each part of an input without a header is loaded alone, behind what is skipped, under what is found in the input: its
-/// rows and faults, end to end, are those of the input.
-pub fn bare_parts_are_loaded_alone()
-    ensures { BarePartsAreLoadedAlone }
+/// Each part of an input is loaded alone, behind the head, under what is found in the input: its rows and faults, end to
+/// end, are those of the input.
+pub fn parts_are_loaded_alone()
+    ensures { PartsAreLoadedAlone }
 {}
