@@ -1,5 +1,5 @@
 -- What is found behind the head of an input, with what was found in the input given.
-use Rattle.std.proofs.Common.{◌≡◌, ℕ, ◌≤◌, Bool, true, false, cond, ◌&&◌, not, List, [], ◌∷◌, map, length, max, refl, sym, ◌∙◌, ap, arith, Some}
+use Rattle.std.proofs.Common.{◌≡◌, ℕ, ◌≤◌, Bool, false, cond, ◌&&◌, not, List, [], ◌∷◌, map, length, max, refl, sym, ◌∙◌, ap, arith, Some}
 use Rattle.std.proofs.Math.Bool.{and-false}
 use Rattle.byte_classes.specs.Dialect.{Marks}
 use Rattle.value_types.specs.declared.types.ColumnType.{ColumnType}

@@ -1,5 +1,5 @@
 -- Each part of an input is loaded alone.
-use Rattle.std.proofs.Common.{◌≡◌, ◌≢◌, ◌⊎◌, ℕ, ◌+◌, Bool, false, List, [], ◌∷◌, ◌++◌, map, length, take, drop, refl, sym, ◌∙◌, ap, subst, arith, append_assoc, length-append}
+use Rattle.std.proofs.Common.{◌≡◌, ◌≢◌, ◌⊎◌, ℕ, ◌+◌, false, List, [], ◌∷◌, ◌++◌, length, take, drop, refl, sym, ◌∙◌, ap, subst, arith, append_assoc, length-append}
 use Rattle.std.specs.Prelude.{Option, None, flat_map, nat_eq}
 use Rattle.std.specs.List.{last_or, starts_with}
 use Rattle.std.proofs.lemmas.List.{take-append-drop}
@@ -14,7 +14,7 @@ use Rattle.part_cuts.specs.declared.part.Part.{Part}
 use Rattle.part_cuts.specs.Part.{parts}
 use Rattle.part_cuts.proofs.StartLaws.{all_is_counted}
 use Rattle.csv_sniffer.specs.declared.found.Sniffed.{Sniffed}
-use Rattle.csv_sniffer.specs.Input.{found, data_place}
+use Rattle.csv_sniffer.specs.Input.{found}
 use Rattle.csv_sniffer.specs.Sample.{start_of_sample, sample_of, is_whole}
 use Rattle.csv_sniffer.specs.Sniffed.{sniffed}
 use Rattle.csv_sniffer.proofs.LineStarts as lines

@@ -1,5 +1,5 @@
 -- Behind a head, data that are cut are read on both sides of the cut alone.
-use Rattle.std.proofs.Common.{◌≡◌, ℕ, suc, ◌+◌, ◌<◌, ◌≤◌, Bool, true, false, ◌&&◌, not, List, [], ◌∷◌, ◌++◌, map, length, take, drop, refl, sym, ◌∙◌, ap, arith, append_assoc}
+use Rattle.std.proofs.Common.{◌≡◌, ℕ, ◌+◌, ◌<◌, true, false, not, List, [], ◌∷◌, ◌++◌, map, length, take, refl, sym, ◌∙◌, ap, arith, append_assoc}
 use Rattle.std.specs.Prelude.{None, ◌==◌, nat_eq}
 use Rattle.std.specs.List.{last_or, starts_with}
 use Rattle.std.proofs.lemmas.Bool.{and_parts, not-true}
@@ -9,7 +9,7 @@ use Rattle.byte_classes.specs.Dialect.{Marks}
 use Rattle.byte_classes.specs.ByteOrderMark.{byte_order_mark}
 use Rattle.byte_classes.specs.Class.{class_of, is_line_end}
 use Rattle.byte_classes.specs.LineEnds.{line_ends}
-use Rattle.byte_classes.proofs.LineEndLaws.{line_ends-append, last_or-append}
+use Rattle.byte_classes.proofs.LineEndLaws.{line_ends-append}
 use Rattle.quote_automaton.specs.declared.state.State.{State}
 use Rattle.quote_automaton.specs.declared.state.State.TheVariants.{RowStart}
 use Rattle.quote_automaton.specs.Automaton.{state_after}
@@ -18,7 +18,6 @@ use Rattle.quote_automaton.proofs.RowLaws.{row_starts-append, row_at-append, rai
 use Rattle.part_cuts.specs.Cut.{begins_filled, is_cut}
 use Rattle.value_types.specs.Datum.{Datum}
 use Rattle.reject_book.specs.declared.reject.Reject.{Reject}
-use Rattle.reject_book.specs.declared.reject.RowPlace.{RowPlace}
 use Rattle.reject_book.specs.declared.reject.Schema.{Schema}
 use Rattle.reject_book.specs.Judging.{judge_of}
 use Rattle.reject_book.specs.Verdict.{Verdict, map_faults}

@@ -1,9 +1,9 @@
 -- Where parts begin the data are divided at cuts.
-use Rattle.std.proofs.Common.{◌≡◌, ℕ, suc, ◌+◌, ◌&&◌, Bool, true, false, cond, List, [], ◌∷◌, ◌++◌, length, refl, sym, ◌∙◌, ap, subst, arith, append_assoc, add_assoc, zero-add, length-append}
-use Rattle.std.specs.Prelude.{None, Some, nat_lt, not}
+use Rattle.std.proofs.Common.{◌≡◌, ℕ, ◌+◌, ◌&&◌, Bool, true, false, cond, List, [], ◌∷◌, ◌++◌, length, refl, sym, ◌∙◌, ap, subst, arith, append_assoc, add_assoc, zero-add, length-append}
+use Rattle.std.specs.Prelude.{None}
 use Rattle.std.specs.List.{last_or}
 use Rattle.std.proofs.lemmas.List.{append-nil}
-use Rattle.byte_classes.specs.Class.{class_of, is_line_end}
+use Rattle.byte_classes.specs.Class.{class_of}
 use Rattle.byte_classes.specs.Dialect.{Marks}
 use Rattle.byte_classes.specs.LineEnds.{line_ends, ends_physical_line}
 use Rattle.byte_classes.proofs.LineEndLaws.{line_ends-append, last_or-append}
@@ -14,7 +14,6 @@ use Rattle.quote_automaton.specs.Rows.{begins_row}
 use Rattle.quote_automaton.proofs.RowBegins.{same_step}
 use Rattle.quote_automaton.proofs.RowLaws.{state_after-append}
 use Rattle.part_cuts.specs.declared.cut_rule.CutRule.{CutRule}
-use Rattle.part_cuts.specs.declared.part.Part.{Part}
 use Rattle.part_cuts.specs.declared.tally.Tally.{Tally}
 use Rattle.part_cuts.specs.Cut.{counts_row, begins_filled, is_cut, multiple_behind}
 use Rattle.part_cuts.specs.Laws.{tally_of}

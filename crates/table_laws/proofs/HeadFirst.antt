@@ -1,7 +1,7 @@
 -- The header's row is the first sampled one, whatever follows its line end.
-use Rattle.std.proofs.Common.{◌≡◌, ◌≢◌, ℕ, zero, suc, ◌+◌, ◌-◌, ◌<◌, ◌≤◌, Bool, true, false, ◌&&◌, not, cond, List, [], ◌∷◌, ◌++◌, map, length, take, drop, refl, sym, ◌∙◌, ap, subst, arith, ◌⊎◌, inl, inr}
-use Rattle.std.specs.Prelude.{Option, None, Some, nat_lt, ◌==◌}
-use Rattle.std.proofs.lemmas.Bool.{eq-eqb, eqb-true}
+use Rattle.std.proofs.Common.{◌≡◌, ℕ, zero, suc, ◌-◌, ◌<◌, ◌≤◌, Bool, true, false, ◌&&◌, not, cond, List, [], ◌∷◌, ◌++◌, map, length, take, drop, refl, sym, ◌∙◌, ap, subst, arith, ◌⊎◌, inl, inr}
+use Rattle.std.specs.Prelude.{None, Some, nat_lt, ◌==◌}
+use Rattle.std.proofs.lemmas.Bool.{eq-eqb}
 use Rattle.byte_classes.specs.declared.class.Class.TheVariants as class
 use Rattle.byte_classes.specs.Class.{class_of, is_line_end}
 use Rattle.byte_classes.specs.Dialect.{Marks, is_byte}
@@ -10,13 +10,11 @@ use Rattle.quote_automaton.specs.declared.state.State.TheVariants.{RowStart}
 use Rattle.quote_automaton.specs.Automaton.{step, is_inside_quotes}
 use Rattle.quote_automaton.specs.Rows.{begins_row, ends_row, row_end}
 use Rattle.quote_automaton.proofs.RowLaws.{row_end-cons_zero}
-use Rattle.dialect_rank.specs.Sampled.{Span, filled_rows, is_last_cut, without_last, sampled_spans, ends_at}
-use Rattle.csv_source.specs.Lists.{is_empty}
+use Rattle.dialect_rank.specs.Sampled.{Span, filled_rows, is_last_cut, without_last, sampled_spans}
 use Rattle.csv_sniffer.specs.LineEnd.{line_end_of, line_end_length, kind_behind_cr}
 use Rattle.csv_sniffer.specs.declared.found.Newline.TheVariants as newline
-use Rattle.csv_sniffer.specs.Sniffed.{has_whole_row}
 use Rattle.table_laws.proofs.EarlyRows.{EndEarly, early-take, early-rows}
-use Rattle.table_laws.proofs.HeadRow.{FirstSpan, spans_from, spans_from-cons, further, first_further, first_start, first_end}
+use Rattle.table_laws.proofs.HeadRow.{FirstSpan, spans_from, spans_from-cons, further, first_end}
 use Rattle.table_laws.proofs.WrittenSample.{FirstRow, sampled}
 
 -- ---- a row ends at a line end, or with the bytes

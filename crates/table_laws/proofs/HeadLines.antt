@@ -1,14 +1,12 @@
 -- A byte order mark and lines that are skipped are the same whatever follows them.
-use Rattle.std.proofs.Common.{◌≡◌, ◌≢◌, ℕ, zero, suc, ◌+◌, ◌-◌, ◌<◌, Bool, true, false, ◌&&◌, cond, List, [], ◌∷◌, ◌++◌, length, take, drop, refl, sym, ◌∙◌, ap, subst, arith, ◌⊎◌, inl, inr, append_assoc, length-append}
+use Rattle.std.proofs.Common.{◌≡◌, ◌≢◌, ℕ, zero, suc, ◌-◌, ◌<◌, Bool, true, false, ◌&&◌, cond, List, [], ◌∷◌, ◌++◌, length, drop, refl, sym, ◌∙◌, ap, subst, arith, ◌⊎◌, inl, inr, append_assoc, length-append}
 use Rattle.std.specs.Prelude.{Option, None, Some, ◌==◌, nat_eq}
 use Rattle.std.specs.List.{last_or, starts_with}
 use Rattle.std.proofs.lemmas.Bool.{eqb-true, false_from_ne_true}
 use Rattle.std.proofs.lemmas.Bool.Decides.{Decides-eqb}
 use Rattle.std.proofs.lemmas.Slice.Eq.{starts_is}
 use Rattle.std.proofs.lemmas.List.{append-nil}
-use Rattle.std.proofs.Math.Seq.{take-append_seam, drop-append_seam}
 use Rattle.byte_classes.specs.ByteOrderMark.{byte_order_mark}
-use Rattle.byte_classes.specs.Dialect.{is_byte}
 use Rattle.byte_classes.proofs.LineEndLaws.{last_or-append}
 use Rattle.csv_sniffer.specs.Pairs.{opens_with_lf}
 use Rattle.csv_sniffer.specs.Sample.{start_of_sample, without_mark, without_lf, behind_line, behind_lines}

@@ -8,7 +8,6 @@ use Rattle.std.proofs.Math.Seq.{take-append_seam, take-append-add}
 use Rattle.byte_classes.specs.Dialect.{is_byte}
 use Rattle.csv_sniffer.specs.LineEnd.{line_end_of, line_end_length, kind_behind_cr}
 use Rattle.csv_sniffer.specs.declared.found.Newline.TheVariants as newline
-use Rattle.csv_sniffer.specs.Pairs.{opens_with_lf}
 use Rattle.csv_sniffer.specs.Sample.{sample_limit, without_last_cr, is_whole, sample_of}
 use Rattle.csv_sniffer.proofs.LineStarts.{parts}
 use Rattle.csv_sniffer.proofs.SampleLaws.{sample-limited}

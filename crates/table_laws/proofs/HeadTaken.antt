@@ -1,9 +1,9 @@
 -- The header at the end of a head is taken, whatever follows it.
 use Rattle.std.proofs.Common.{◌≡◌, ◌≢◌, ℕ, zero, suc, ◌+◌, ◌-◌, ◌<◌, ◌≤◌, Bool, true, false, ◌&&◌, cond, not, List, [], ◌∷◌, ◌++◌, map, length, take, drop, refl, sym, ◌∙◌, ap, subst, arith, ◌⊎◌, inl, inr, length-take, length-drop, length-append}
-use Rattle.std.specs.Prelude.{Option, None, Some, filter, nat_lt, slice_range, ◌==◌}
+use Rattle.std.specs.Prelude.{None, Some, filter, nat_lt, ◌==◌}
 use Rattle.std.specs.List.{last_or}
 use Rattle.std.proofs.lemmas.Bool.{and_parts, eqb-true, ltb-true, not-true}
-use Rattle.std.proofs.lemmas.List.{append-nil, take-append-drop, take-append-le, drop-append-le}
+use Rattle.std.proofs.lemmas.List.{take-append-drop, take-append-le, drop-append-le}
 use Rattle.byte_classes.specs.Dialect.{Marks}
 use Rattle.byte_classes.proofs.LineEndLaws.{last_or-append}
 use Rattle.quote_automaton.specs.declared.state.State.TheVariants.{RowStart}
@@ -145,14 +145,14 @@ module _ (o : Options) (rest : List ℕ) where
       elim (header_ends s.dialect sample whole o.sample_size first.0.0 first.0.1 first.1 (not-true (is_last_cut sample whole spans) has.1)) [
         | inl all ↦ (let same : sample ≡ rest = ap (λ t. cond t rest (without_last_cr (take sample_limit rest))) all.1 in inl (drop_all s.data_start rest (let long = ap length same in omega (arith, long, all.0, start))))
         | inr line ↦ inr (record {
-            p = first.0.0;
-            e = first.0.1;
-            more = drop s.data_start sample;
-            first = first.1;
-            is = sample_is;
-            inside = omega (arith, front_long, start, line);
-            line = omega (arith, front_long, start);
-          })
+          p = first.0.0;
+          e = first.0.1;
+          more = drop s.data_start sample;
+          first = first.1;
+          is = sample_is;
+          inside = omega (arith, front_long, start, line);
+          line = omega (arith, front_long, start);
+        })
       ]
 
   -- how a head ends behind what is skipped: with no header, with all that there is, or with the header's line

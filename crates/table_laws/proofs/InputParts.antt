@@ -1,17 +1,16 @@
 -- An input is read part by part.
-use Rattle.std.proofs.Common.{◌≡◌, ℕ, ◌+◌, ◌-◌, ◌≤◌, Bool, false, List, ◌++◌, map, length, take, drop, refl, sym, ◌∙◌, ap, subst, arith}
-use Rattle.std.specs.Prelude.{None, flat_map}
+use Rattle.std.proofs.Common.{◌≡◌, ℕ, false, List, ◌++◌, length, sym, ◌∙◌, ap}
+use Rattle.std.specs.Prelude.{flat_map}
 use Rattle.std.proofs.lemmas.List.{take-append-drop, length-take-le}
-use Rattle.byte_classes.specs.LineEnds.{line_ends}
 use Rattle.load_options.specs.declared.options.Options.{Options}
 use Rattle.csv_sniffer.specs.declared.found.Sniffed.{Sniffed}
-use Rattle.csv_sniffer.specs.Input.{found, data_place, place_under}
+use Rattle.csv_sniffer.specs.Input.{found, data_place}
 use Rattle.csv_sniffer.specs.Pairs.{parts_pair}
 use Rattle.csv_sniffer.proofs.DataPlaceLaws.{data_part_no_pair}
 use Rattle.csv_sniffer.proofs.FoundPlaces.{place_within, own_place}
 use Rattle.part_cuts.specs.declared.part.Part.{Part}
 use Rattle.loader_reply.specs.Reading.{reading, schema_of, verdicts, table_rows, faults}
-use Rattle.table_laws.specs.PartLaws.{part_bytes, part_verdicts, parts_of, head_of, data_of, rule_of, input_parts, lines_before, bytes_before, InputsAreReadByParts}
+use Rattle.table_laws.specs.PartLaws.{part_bytes, part_verdicts, head_of, data_of, rule_of, input_parts, lines_before, bytes_before, InputsAreReadByParts}
 use Rattle.table_laws.proofs.PartReadings.{parts_are_read_alone}
 use Rattle.table_laws.proofs.PartSums.{rows_of_all, faults_of_all}
 

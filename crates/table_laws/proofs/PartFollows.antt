@@ -1,8 +1,8 @@
 -- What stands behind the head where a part is loaded alone: the part goes on as the data do.
-use Rattle.std.proofs.Common.{◌≡◌, ◌≢◌, ℕ, ◌+◌, ◌&&◌, not, Bool, true, false, List, [], ◌∷◌, ◌++◌, map, length, refl, sym, ◌∙◌, ap, subst, ◌⊎◌, inl, inr, drop, append_assoc}
-use Rattle.std.specs.Prelude.{Option, None, flat_map, nat_eq, ◌==◌}
+use Rattle.std.proofs.Common.{◌≡◌, ◌≢◌, ℕ, ◌&&◌, not, Bool, true, false, List, [], ◌∷◌, ◌++◌, length, refl, sym, ◌∙◌, ap, ◌⊎◌, inl, inr, drop, append_assoc}
+use Rattle.std.specs.Prelude.{Option, None, flat_map, nat_eq}
 use Rattle.std.specs.List.{last_or, starts_with}
-use Rattle.std.proofs.lemmas.Bool.{and_parts, not-true, false_from_ne_true}
+use Rattle.std.proofs.lemmas.Bool.{not-true, false_from_ne_true}
 use Rattle.std.proofs.lemmas.Bool.Decides.{Decides-eqb}
 use Rattle.std.proofs.lemmas.List.{append-nil}
 use Rattle.std.proofs.lemmas.Slice.Eq.{starts_is}
@@ -18,9 +18,6 @@ use Rattle.part_cuts.specs.declared.tally.Tally.{Tally}
 use Rattle.part_cuts.specs.Cut.{begins_filled, is_cut}
 use Rattle.part_cuts.specs.Laws.{tally_of}
 use Rattle.part_cuts.specs.Part.{part_between, parts}
-use Rattle.value_types.specs.Datum.{Datum}
-use Rattle.reject_book.specs.declared.reject.Reject.{Reject}
-use Rattle.reject_book.specs.Verdict.{Verdict}
 use Rattle.csv_sniffer.proofs.LineStarts.{before_none, before_other}
 use Rattle.csv_sniffer.proofs.LineStarts as lines
 use Rattle.table_laws.specs.PartLaws.{part_bytes}

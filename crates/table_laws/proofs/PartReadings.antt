@@ -1,6 +1,6 @@
 -- What is read of data is what is read of each part alone.
-use Rattle.std.proofs.Common.{◌≡◌, ℕ, zero, suc, ◌+◌, ◌-◌, ◌||◌, ◌&&◌, Bool, true, false, cond, not, List, [], ◌∷◌, ◌++◌, map, length, take, drop, refl, sym, ◌∙◌, ap, subst, arith, append_assoc, length-append}
-use Rattle.std.specs.Prelude.{Option, None, Some, flat_map, slice_range, ◌==◌}
+use Rattle.std.proofs.Common.{◌≡◌, ℕ, zero, suc, ◌+◌, ◌-◌, ◌||◌, ◌&&◌, Bool, true, false, cond, not, List, [], ◌∷◌, ◌++◌, length, take, drop, refl, sym, ◌∙◌, ap, arith, append_assoc, length-append}
+use Rattle.std.specs.Prelude.{Option, None, Some, flat_map, ◌==◌}
 use Rattle.std.specs.List.{last_or}
 use Rattle.std.proofs.lemmas.List.{append-nil, map-append}
 use Rattle.std.proofs.Math.Seq.{take-append_seam, drop-append_seam, take-append-add, drop-append-add}
@@ -12,7 +12,7 @@ use Rattle.quote_automaton.specs.Automaton.{state_after}
 use Rattle.part_cuts.specs.declared.cut_rule.CutRule.{CutRule}
 use Rattle.part_cuts.specs.declared.part.Part.{Part}
 use Rattle.part_cuts.specs.declared.tally.Tally.{Tally}
-use Rattle.part_cuts.specs.Laws.{tally_of, AllIsCounted}
+use Rattle.part_cuts.specs.Laws.{tally_of}
 use Rattle.part_cuts.specs.Part.{part_between, parts}
 use Rattle.part_cuts.specs.Reading.{Reading, reading, reading_from}
 use Rattle.part_cuts.proofs.StartLaws.{all_is_counted}
@@ -22,7 +22,7 @@ use Rattle.reject_book.specs.declared.reject.Schema.{Schema}
 use Rattle.reject_book.specs.Verdict.{Verdict}
 use Rattle.csv_sniffer.specs.Pairs.{parts_pair, opens_with_lf}
 use Rattle.loader_reply.specs.Reading.{verdicts}
-use Rattle.table_laws.specs.PartLaws.{all_placed, part_bytes, part_verdicts, parts_of, PartsAreReadAlone}
+use Rattle.table_laws.specs.PartLaws.{all_placed, part_bytes, part_verdicts, PartsAreReadAlone}
 use Rattle.table_laws.proofs.CutReading.{IsFilledRow, filled_at_cut, cuts_are_read_alone}
 use Rattle.table_laws.proofs.CutRows.{lines_alike, taken_lines_alike}
 use Rattle.table_laws.proofs.Divisions.{Divides, last, more, parts_by_first, division}
