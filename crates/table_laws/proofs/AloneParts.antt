@@ -1,7 +1,7 @@
 -- Each part of an input is loaded alone.
 use Rattle.std.proofs.Common.{◌≡◌, ◌≢◌, ◌⊎◌, ℕ, ◌+◌, false, List, [], ◌∷◌, ◌++◌, length, take, drop, refl, sym, ◌∙◌, ap, subst, arith, append_assoc, length-append}
 use Rattle.std.specs.Prelude.{Option, None, flat_map, nat_eq}
-use Rattle.std.specs.List.{last_or, starts_with}
+use Rattle.std.specs.List.{AllByRecursion, last_or, starts_with}
 use Rattle.std.proofs.lemmas.List.{take-append-drop}
 use Rattle.std.proofs.Math.Seq.{drop-append_seam, take-append-add, drop-append-add}
 use Rattle.byte_classes.specs.ByteOrderMark.{byte_order_mark}
@@ -28,7 +28,7 @@ use Rattle.table_laws.proofs.Divisions.{division}
 use Rattle.table_laws.proofs.HeadLines.{Follows, SampleBegins, sample_begins, follow_on, bare_again}
 use Rattle.table_laws.proofs.HeadTaken.{HeadEnd, head_end, takes_header, front_ends, front_long}
 use Rattle.table_laws.proofs.InputParts.{halves, no_pair, read_by_parts}
-use Rattle.table_laws.proofs.PartFollows.{GoesOn, goes_at_start, parts_agree}
+use Rattle.table_laws.proofs.PartFollows.{GoesOn, PartGoesOn, goes_at_start, parts_go_on, flat_alike}
 use Rattle.table_laws.proofs.PartReadings.{no_pair_behind}
 use Rattle.table_laws.proofs.PartSums.{rows_of_all, faults_of_all}
 
@@ -130,20 +130,26 @@ module _ (o : Options) (input : List ℕ) (accepted : IsAccepted o) where
         max_line_size = o.max_line_size;
       }) y (at i)
 
+  -- each part goes on behind the head
+  pub all_go_on : (size : ℕ) → AllByRecursion (PartGoesOn (rule_of s size) head text) (input_parts o input size)
+  all_go_on size =
+      let rule : CutRule = rule_of s size in
+      let div = division rule (length head) (line_ends None head) text in
+      let counted = all_is_counted rule (length head) (line_ends None head) text in
+      subst (λ (ps : List Part). AllByRecursion (PartGoesOn rule head text) ps) (λ i. parts (sym div.1 i) (sym counted i)) (parts_go_on rule head text [] text div.0 div.2 refl goes_first)
+
+  pub part_alone : (size : ℕ) (part : Part) → PartGoesOn (rule_of s size) head text part →
+      reading (alone o s) (head ++ part_bytes input part) ≡ verdicts 0 s.dialect (schema_of o s) (head ++ part_bytes input part) (length head)
+  part_alone size part goes = read_alone (part_bytes input part) (subst (λ l. GoesOn head text (part_bytes l part)) (halves o input) goes)
+
   abbrev placed_part : Part → List (Verdict (List Datum) Reject) → List (Verdict (List Datum) Reject)
   placed_part part vs = all_placed (lines_before head part) (bytes_before head part) vs
 
   pub loaded_alone : (size : ℕ) → reading o input ≡ flat_map (λ part. placed_part part (reading (alone o s) (head ++ part_bytes input part))) (input_parts o input size)
   loaded_alone size =
-      let rule : CutRule = rule_of s size in
-      let div = division rule (length head) (line_ends None head) text in
-      let counted = all_is_counted rule (length head) (line_ends None head) text in
-      let agree = parts_agree rule head text placed_part (λ other. reading (alone o s) (head ++ other)) (λ other. verdicts 0 s.dialect (schema_of o s) (head ++ other) (length head)) read_alone
-      [] text div.0 div.2 refl goes_first in
       read_by_parts o input size
-      ∙ (λ i. flat_map (part_verdicts 0 s.dialect (schema_of o s) head (sym (halves o input) i)) (parts (div.1 i) (counted i)))
-      ∙ sym agree
-      ∙ (λ i. flat_map (λ part. placed_part part (reading (alone o s) (head ++ part_bytes (halves o input i) part))) (parts (sym div.1 i) (sym counted i)))
+      ∙ sym (flat_alike (PartGoesOn (rule_of s size) head text) (λ part. placed_part part (reading (alone o s) (head ++ part_bytes input part)))
+      (part_verdicts 0 s.dialect (schema_of o s) head input) (λ part goes. ap (placed_part part) (part_alone size part goes)) (input_parts o input size) (all_go_on size))
 
 pub parts_are_loaded_alone : PartsAreLoadedAlone
 parts_are_loaded_alone o input size accepted =

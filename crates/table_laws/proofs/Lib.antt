@@ -1,9 +1,11 @@
 pub mod AloneFound
 pub mod AloneParts
+pub mod CountedRows
 pub mod CutReading
 pub mod CutRows
 pub mod Divisions
 pub mod EarlyRows
+pub mod FirstFaults
 pub mod HeadFirst
 pub mod HeadLines
 pub mod HeadRow
@@ -12,6 +14,7 @@ pub mod HeadTaken
 pub mod InputParts
 pub mod PartFollows
 pub mod PartReadings
+pub mod PartRows
 pub mod PartSums
 pub mod PlacedFaults
 pub mod PlacedTwice

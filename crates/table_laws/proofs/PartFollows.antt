@@ -1,7 +1,7 @@
 -- What stands behind the head where a part is loaded alone: the part goes on as the data do.
-use Rattle.std.proofs.Common.{◌≡◌, ◌≢◌, ℕ, ◌&&◌, not, Bool, true, false, List, [], ◌∷◌, ◌++◌, length, refl, sym, ◌∙◌, ap, ◌⊎◌, inl, inr, drop, append_assoc}
+use Rattle.std.proofs.Common.{◌≡◌, ◌≢◌, ℕ, ◌&&◌, not, Bool, true, false, List, [], ◌∷◌, ◌++◌, length, refl, sym, ◌∙◌, ap, ◌⊎◌, inl, inr, drop, append_assoc, subst}
 use Rattle.std.specs.Prelude.{Option, None, flat_map, nat_eq}
-use Rattle.std.specs.List.{last_or, starts_with}
+use Rattle.std.specs.List.{AllByRecursion, last_or, starts_with}
 use Rattle.std.proofs.lemmas.Bool.{not-true, false_from_ne_true}
 use Rattle.std.proofs.lemmas.Bool.Decides.{Decides-eqb}
 use Rattle.std.proofs.lemmas.List.{append-nil}
@@ -82,33 +82,28 @@ behind_some : (front back text : List ℕ) → text ≡ front ++ back → back �
 behind_some [] back text is some none = some (sym is ∙ none)
 behind_some (x ∷ front) back text is some none = let no : x ∷ (front ++ back) ≡ [] = sym is ∙ none in let wrong : ⊥ = cc in wrong
 
--- two readings of the bytes of parts agree where they agree on what goes on behind the head
-module _ {V : Type 0} (rule : CutRule) (head text : List ℕ) (place : Part → List V → List V) (own read : List ℕ → List V) (same : (other : List ℕ) → GoesOn head text other → own other ≡ read other) where
+-- the bytes of each part go on behind the head
+module _ (rule : CutRule) (head text : List ℕ) where
   abbrev begun : List ℕ → Tally
   begun = tally_of rule (length head) (line_ends None head)
 
-  abbrev placed_by : (List ℕ → List V) → Part → List V
-  placed_by by part = place part (by (part_bytes (head ++ text) part))
+  abbrev pub PartGoesOn : Part → Type 0
+  PartGoesOn part = GoesOn head text (part_bytes (head ++ text) part)
 
-  one_part : (front piece back : List ℕ) → text ≡ front ++ (piece ++ back) → GoesOn head text piece →
-      let part = part_between (begun front) (begun (front ++ piece)) in placed_by own part ≡ placed_by read part
-  one_part front piece back is goes =
-      let part : Part = part_between (begun front) (begun (front ++ piece)) in
-      let bytes : part_bytes (head ++ text) part ≡ piece = bytes_between rule head text front piece back is in
-      ap (place part) (ap own bytes ∙ same piece goes ∙ ap read (sym bytes))
+  one_goes : (front piece back : List ℕ) → text ≡ front ++ (piece ++ back) → GoesOn head text piece → PartGoesOn (part_between (begun front) (begun (front ++ piece)))
+  one_goes front piece back is goes = subst (GoesOn head text) (sym (bytes_between rule head text front piece back is)) goes
 
-  pub parts_agree : (front rest : List ℕ) (starts : List Tally) → Divides rule (length head) (line_ends None head) front rest starts → text ≡ front ++ rest →
-      ((xs ys : List ℕ) → rest ≡ xs ++ ys → GoesOn head text xs) → flat_map (placed_by own) (parts starts (begun text)) ≡ flat_map (placed_by read) (parts starts (begun text))
-  parts_agree front rest starts (last f back) is goes =
+  pub parts_go_on : (front rest : List ℕ) (starts : List Tally) → Divides rule (length head) (line_ends None head) front rest starts → text ≡ front ++ rest →
+      ((xs ys : List ℕ) → rest ≡ xs ++ ys → GoesOn head text xs) → AllByRecursion PartGoesOn (parts starts (begun text))
+  parts_go_on front rest starts (last f back) is goes =
       let whole : text ≡ f ++ (back ++ []) = is ∙ ap (λ l. f ++ l) (sym (append-nil back)) in
-      let one = one_part f back [] whole (goes back [] (sym (append-nil back))) in
-      ap (λ l. flat_map (placed_by own) (part_between (begun f) (begun l) ∷ [])) is
-      ∙ ap (λ vs. vs ++ []) one
-      ∙ sym (ap (λ l. flat_map (placed_by read) (part_between (begun f) (begun l) ∷ [])) is)
-  parts_agree front rest starts (more f piece back later cut divides) is goes =
-      let on = parts_agree (f ++ piece) back later divides (is ∙ sym (append_assoc f piece back))
+      (subst (λ l. PartGoesOn (part_between (begun f) (begun l))) (sym is) (one_goes f back [] whole (goes back [] (sym (append-nil back)))), tt)
+  parts_go_on front rest starts (more f piece back later cut divides) is goes =
+      let on = parts_go_on (f ++ piece) back later divides (is ∙ sym (append_assoc f piece back))
       (λ xs ys at. goes_at_cut rule (state_after rule.dialect RowStart piece) head text back xs ys cut (behind_some (f ++ piece) back text (is ∙ sym (append_assoc f piece back))) at) in
-      let split = parts_by_first rule (length head) (line_ends None head) (begun f) (begun text) (f ++ piece) back later divides in
-      ap (flat_map (placed_by own)) split
-      ∙ (λ i. one_part f piece back is (goes piece back refl) i ++ on i)
-      ∙ sym (ap (flat_map (placed_by read)) split)
+      subst (AllByRecursion PartGoesOn) (sym (parts_by_first rule (length head) (line_ends None head) (begun f) (begun text) (f ++ piece) back later divides)) (one_goes f piece back is (goes piece back refl), on)
+
+-- two readings of parts that agree on each of them
+pub flat_alike : {P V : Type 0} (Holds : P → Type 0) (f g : P → List V) → ((p : P) → Holds p → f p ≡ g p) → (ps : List P) → AllByRecursion Holds ps → flat_map f ps ≡ flat_map g ps
+flat_alike Holds f g same [] all = refl
+flat_alike Holds f g same (p ∷ ps) all = λ i. same p all.0 i ++ flat_alike Holds f g same ps all.1 i

@@ -1,5 +1,5 @@
 -- The laws of the parts of a file: what is read of each alone, behind the file's head, is what the file has there.
-use Rattle.std.specs.Prelude.{◌≡◌, ℕ, ◌+◌, ◌-◌, true, false, Some, List, [], ◌++◌, length, take, drop, map, flat_map, None, slice_range}
+use Rattle.std.specs.Prelude.{◌≡◌, ℕ, ◌+◌, ◌-◌, Bool, true, false, Some, All, filter, List, [], ◌++◌, length, take, drop, map, flat_map, None, slice_range}
 use Rattle.std.specs.List.{last_or}
 use Rattle.byte_classes.specs.Dialect.{Marks}
 use Rattle.byte_classes.specs.LineEnds.{line_ends}
@@ -13,7 +13,7 @@ use Rattle.part_cuts.specs.Reading as cuts
 use Rattle.value_types.specs.Datum.{Datum}
 use Rattle.reject_book.specs.declared.reject.Reject.{Reject}
 use Rattle.reject_book.specs.declared.reject.Schema.{Schema}
-use Rattle.reject_book.specs.Verdict.{Verdict, map_faults}
+use Rattle.reject_book.specs.Verdict.{Verdict, Blank, Good, Faulty, map_faults}
 use Rattle.load_options.specs.declared.options.Options.{Options}
 use Rattle.load_options.specs.Accepted.{IsAccepted}
 use Rattle.dialect_rank.specs.Candidates.{with_dialect}
@@ -104,3 +104,21 @@ alone o s = record (with_dialect o s.dialect) { header = Some s.header; types = 
 abbrev pub PartsAreLoadedAlone : Type 0
 PartsAreLoadedAlone = (o : Options) (input : List ℕ) (size : ℕ) → IsAccepted o →
     AreOfParts o input (input_parts o input size) (λ part. reading (alone o (found o input)) (head_of o input ++ part_bytes input part))
+
+-- the first faults of an input need no more than the first ones of each part
+abbrev pub FirstFaultsAreOfParts : Type 0
+FirstFaultsAreOfParts = (o : Options) (input : List ℕ) (size n : ℕ) → IsAccepted o → let head = head_of o input in
+    take n (faults (reading o input))
+    ≡ take n (flat_map (λ part. map (placed (lines_before head part) (bytes_before head part)) (take n (faults (reading (alone o (found o input)) (head ++ part_bytes input part)))))
+    (input_parts o input size))
+
+-- whether a row has a verdict, good or faulty
+abbrev pub is_judged : Verdict (List Datum) Reject → Bool
+is_judged Blank = false
+is_judged (Good cells) = true
+is_judged (Faulty rejects) = true
+
+-- so many rows of each part have one as the part says
+abbrev pub PartRowsAreCounted : Type 0
+PartRowsAreCounted = (o : Options) (input : List ℕ) (size : ℕ) → IsAccepted o →
+    All (λ part. part.rows ≡ length (filter is_judged (reading (alone o (found o input)) (head_of o input ++ part_bytes input part)))) (input_parts o input size)

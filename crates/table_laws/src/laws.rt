@@ -1,6 +1,6 @@
 //! Laws over the definitions.
 ghost use Rattle.table_laws.specs.Laws.{WrittenTableIsWritten, WrittenTableReadsBack};
-ghost use Rattle.table_laws.specs.PartLaws.{CutsAreReadAlone, InputsAreReadByParts, PartsAreLoadedAlone, PartsAreReadAlone};
+ghost use Rattle.table_laws.specs.PartLaws.{CutsAreReadAlone, FirstFaultsAreOfParts, InputsAreReadByParts, PartRowsAreCounted, PartsAreLoadedAlone, PartsAreReadAlone};
 
 /// A written table is a text of RFC 4180's grammar.
 pub fn written_table_is_written()
@@ -32,4 +32,14 @@ pub fn inputs_are_read_by_parts()
 /// end, are those of the input.
 pub fn parts_are_loaded_alone()
     ensures { PartsAreLoadedAlone }
+{}
+
+/// The first faults of an input need no more than the first ones of each part.
+pub fn first_faults_are_of_parts()
+    ensures { FirstFaultsAreOfParts }
+{}
+
+/// So many rows of each part that is loaded alone are good or faulty as the part says.
+pub fn part_rows_are_counted()
+    ensures { PartRowsAreCounted }
 {}
