@@ -17,6 +17,7 @@ use Rattle.csv_sniffer.proofs.FixedLaws.{and_again, length-sniffed_types}
 use Rattle.csv_sniffer.proofs.NamedTypes.{none_given}
 use Rattle.csv_sniffer.proofs.SniffedLaws.{names_match_types}
 use Rattle.table_laws.specs.PartLaws.{alone}
+use Rattle.table_laws.proofs.WrittenFound.{given_types}
 
 -- as many columns as types, where these are given
 columns_given : (names : List (List ℕ)) (tys found : List ColumnType) (most other : ℕ) → length found ≡ cond (not (is_empty names)) (length names) (cond (not (is_empty tys)) (length tys) most) → 1 ≤ length found →
@@ -24,10 +25,6 @@ columns_given : (names : List (List ℕ)) (tys found : List ColumnType) (most ot
 columns_given (name ∷ names) tys found most other is some = sym is
 columns_given [] tys [] most other is some = absurd (let no : ⊥ = omega (arith, some) in no)
 columns_given [] tys (ty ∷ found) most other is some = refl
-
-types_given : (tys detected : List ColumnType) → 1 ≤ length tys → cond (is_empty tys) detected tys ≡ tys
-types_given [] detected some = absurd (let no : ⊥ = omega (arith, some) in no)
-types_given (ty ∷ tys) detected some = refl
 
 -- a header that is given is taken from a sample that has a row
 header_given : (o : Options) (s : Sniffed) (d : Marks) (columns : ℕ) (sample : List ℕ) (whole : Bool) (spans : List Span) →
@@ -99,6 +96,6 @@ module _ (o : Options) (sample : List ℕ) (whole : Bool) where
               ∙ ap (final_names o.names s.dialect own_columns) takes.row;
           types =
               none_given (record { names = []; types = [] }) (sniffed (alone o s) other all).names (final_types (alone o s) d columns (behind_first_if (sniffed (alone o s) other all).header rows)) refl
-              ∙ types_given s.types (detected_types (alone o s) d columns (behind_first_if (sniffed (alone o s) other all).header rows)) some;
+              ∙ given_types s.types (detected_types (alone o s) d columns (behind_first_if (sniffed (alone o s) other all).header rows)) some;
           start = ap (λ h. behind_row other (first_if h (spans d))) header ∙ ap (λ e. behind_row other (first_if s.header (spans e))) chosen ∙ takes.start;
         }

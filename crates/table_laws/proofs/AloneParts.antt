@@ -1,8 +1,9 @@
 -- Each part of an input is loaded alone.
-use Rattle.std.proofs.Common.{◌≡◌, ◌≢◌, ◌⊎◌, ℕ, ◌+◌, false, List, [], ◌∷◌, ◌++◌, length, take, drop, refl, sym, ◌∙◌, ap, subst, arith, append_assoc, length-append}
-use Rattle.std.specs.Prelude.{Option, None, flat_map, nat_eq}
+use Rattle.std.proofs.Common.{get_or, ◌≡◌, ◌≢◌, ◌⊎◌, ℕ, ◌+◌, false, List, [], ◌∷◌, ◌++◌, length, take, drop, refl, sym, ◌∙◌, ap, subst, arith, append_assoc, length-append}
+use Rattle.std.specs.Prelude.{All, Option, None, flat_map, nat_eq}
 use Rattle.std.specs.List.{AllByRecursion, last_or, starts_with}
 use Rattle.std.proofs.lemmas.List.{take-append-drop}
+use Rattle.std.proofs.lemmas.List.Elements.{All-from_recursion}
 use Rattle.std.proofs.Math.Seq.{drop-append_seam, take-append-add, drop-append-add}
 use Rattle.byte_classes.specs.ByteOrderMark.{byte_order_mark}
 use Rattle.byte_classes.specs.LineEnds.{line_ends}
@@ -22,7 +23,7 @@ use Rattle.value_types.specs.Datum.{Datum}
 use Rattle.reject_book.specs.declared.reject.Reject.{Reject}
 use Rattle.reject_book.specs.Verdict.{Verdict}
 use Rattle.loader_reply.specs.Reading.{reading, schema_of, verdicts, table_rows, faults}
-use Rattle.table_laws.specs.PartLaws.{all_placed, alone, part_bytes, part_verdicts, head_of, data_of, rule_of, input_parts, lines_before, bytes_before, PartsAreLoadedAlone}
+use Rattle.table_laws.specs.PartLaws.{all_placed, alone, part_bytes, part_verdicts, head_of, data_of, rule_of, input_parts, lines_before, bytes_before, IsFoundBehind, PartsAreFoundAlike, PartsAreLoadedAlone}
 use Rattle.table_laws.proofs.AloneFound.{IsFoundAlone, found_alone}
 use Rattle.table_laws.proofs.Divisions.{division}
 use Rattle.table_laws.proofs.HeadLines.{Follows, SampleBegins, sample_begins, follow_on, bare_again}
@@ -98,9 +99,9 @@ module _ (o : Options) (input : List ℕ) (accepted : IsAccepted o) where
         second_none [] ys h = h
         second_none (x ∷ xs) ys h = absurd (let no : ⊥ = cc in no)
 
-  -- a part is read alone as it is read under what was found
-  read_alone : (other : List ℕ) → GoesOn head text other → reading (alone o s) (head ++ other) ≡ verdicts 0 s.dialect (schema_of o s) (head ++ other) (length head)
-  read_alone other goes =
+  -- the same is found behind the head
+  found_behind : (other : List ℕ) → GoesOn head text other → IsFoundBehind (alone o s) s head other
+  found_behind other goes =
       let y : List ℕ = head ++ other in
       let split : y ≡ b.front ++ (line ++ other) = ap (λ h. h ++ other) head_is ∙ append_assoc b.front line other in
       let follows : Follows (last_or (last_or None b.front) line) text other = subst (λ c. Follows c text other) last_is goes.follows in
@@ -119,7 +120,12 @@ module _ (o : Options) (input : List ℕ) (accepted : IsAccepted o) where
       let f : IsFoundAlone (found (alone o s) y) s = subst (λ l. IsFoundAlone (sniffed (alone o s) (sample_of l) (is_whole l)) s) (sym rest) own in
       let long = length-append b.front line in
       let whole = ap length head_is in
-      let at : start_of_sample o.skip y + (found (alone o s) y).data_start ≡ length head = omega (arith, start, f.start, long, whole, line_long) in
+      record { dialect = f.dialect; names = f.names; types = f.types; place = omega (arith, start, f.start, long, whole, line_long) }
+
+  -- so it is read as under what was found
+  read_alone : (other : List ℕ) → GoesOn head text other → reading (alone o s) (head ++ other) ≡ verdicts 0 s.dialect (schema_of o s) (head ++ other) (length head)
+  read_alone other goes =
+      let f : IsFoundBehind (alone o s) s head other = found_behind other goes in
       λ i. verdicts 0 (f.dialect i) (record {
         names = f.names i;
         types = f.types i;
@@ -128,7 +134,7 @@ module _ (o : Options) (input : List ℕ) (accepted : IsAccepted o) where
         allow_quoted_nulls = o.allow_quoted_nulls;
         null_padding = o.null_padding;
         max_line_size = o.max_line_size;
-      }) y (at i)
+      }) (head ++ other) (f.place i)
 
   -- each part goes on behind the head
   pub all_go_on : (size : ℕ) → AllByRecursion (PartGoesOn (rule_of s size) head text) (input_parts o input size)
@@ -142,6 +148,9 @@ module _ (o : Options) (input : List ℕ) (accepted : IsAccepted o) where
       reading (alone o s) (head ++ part_bytes input part) ≡ verdicts 0 s.dialect (schema_of o s) (head ++ part_bytes input part) (length head)
   part_alone size part goes = read_alone (part_bytes input part) (subst (λ l. GoesOn head text (part_bytes l part)) (halves o input) goes)
 
+  pub part_found : (size : ℕ) (part : Part) → PartGoesOn (rule_of s size) head text part → IsFoundBehind (alone o s) s head (part_bytes input part)
+  part_found size part goes = found_behind (part_bytes input part) (subst (λ l. GoesOn head text (part_bytes l part)) (halves o input) goes)
+
   abbrev placed_part : Part → List (Verdict (List Datum) Reject) → List (Verdict (List Datum) Reject)
   placed_part part vs = all_placed (lines_before head part) (bytes_before head part) vs
 
@@ -150,6 +159,11 @@ module _ (o : Options) (input : List ℕ) (accepted : IsAccepted o) where
       read_by_parts o input size
       ∙ sym (flat_alike (PartGoesOn (rule_of s size) head text) (λ part. placed_part part (reading (alone o s) (head ++ part_bytes input part)))
       (part_verdicts 0 s.dialect (schema_of o s) head input) (λ part goes. ap (placed_part part) (part_alone size part goes)) (input_parts o input size) (all_go_on size))
+
+pub parts_are_found_alike : PartsAreFoundAlike
+parts_are_found_alike o input size accepted =
+    let all : All (PartGoesOn (rule_of (found o input) size) (head_of o input) (data_of o input)) (input_parts o input size) = All-from_recursion (PartGoesOn (rule_of (found o input) size) (head_of o input) (data_of o input)) (input_parts o input size) (all_go_on o input accepted size) in
+    λ k part below. part_found o input accepted size (get_or (input_parts o input size) k part) (all k part below)
 
 pub parts_are_loaded_alone : PartsAreLoadedAlone
 parts_are_loaded_alone o input size accepted =

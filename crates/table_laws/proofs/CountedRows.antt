@@ -1,12 +1,12 @@
 -- How many rows of a text have a verdict.
-use Rattle.std.proofs.Common.{◌≡◌, ℕ, zero, suc, ◌+◌, ◌<◌, ◌≤◌, Bool, true, false, ◌&&◌, ◌||◌, not, cond, List, [], ◌∷◌, ◌++◌, map, length, refl, sym, ◌∙◌, ap, arith}
+use Rattle.std.proofs.Common.{◌≡◌, ℕ, suc, ◌+◌, ◌<◌, ◌≤◌, Bool, true, false, ◌&&◌, ◌||◌, not, cond, List, [], ◌∷◌, ◌++◌, map, length, refl, sym, ◌∙◌, ap, arith}
 use Rattle.std.specs.Prelude.{Option, None, Some, filter, nat_le, ◌==◌}
 use Rattle.std.proofs.lemmas.Bool.{eq-eqb, ne_eqb, leb-false, leb-true}
 use Rattle.byte_classes.specs.Class.{class_of, is_line_end}
 use Rattle.byte_classes.specs.Dialect.{Marks}
 use Rattle.quote_automaton.specs.declared.state.State.{State}
 use Rattle.quote_automaton.specs.declared.state.State.TheVariants.{RowStart}
-use Rattle.quote_automaton.specs.Automaton.{step, is_inside_quotes}
+use Rattle.quote_automaton.specs.Automaton.{step}
 use Rattle.quote_automaton.specs.Rows.{begins_row, ends_row, row_starts, row_at}
 use Rattle.quote_automaton.proofs.RowBegins.{same_end}
 use Rattle.quote_automaton.proofs.RowLaws.{row_starts-cons, row_at-cons_zero, row_at-cons_suc}
@@ -18,7 +18,7 @@ use Rattle.reject_book.specs.declared.reject.RowPlace.{RowPlace}
 use Rattle.reject_book.specs.declared.reject.Schema.{Schema}
 use Rattle.reject_book.specs.Fault.{row_fault, cast_faults}
 use Rattle.reject_book.specs.Judging.{cells_of_fields, faulty_or, good_unless, is_blank, verdict_of}
-use Rattle.reject_book.specs.Verdict.{Verdict, Blank, Good, Faulty}
+use Rattle.reject_book.specs.Verdict.{Verdict, Blank}
 use Rattle.loader_reply.specs.Reading.{verdicts}
 use Rattle.table_laws.specs.PartLaws.{is_judged}
 use Rattle.table_laws.proofs.CutReading.{judged_are}

@@ -21,7 +21,7 @@ use Rattle.part_cuts.specs.Part.{part_between, parts}
 use Rattle.part_cuts.specs.Passed.{rows_begun}
 use Rattle.part_cuts.specs.Reading.{Reading, begins_part, begun, behind, reading, reading_from}
 
-and_first : (a b : Bool) → (a && b) ≡ true → a ≡ true
+pub and_first : (a b : Bool) → (a && b) ≡ true → a ≡ true
 and_first true b h = refl
 and_first false b h = absurd (let no : ⊥ = cc in no)
 

@@ -13,6 +13,7 @@ use Rattle.quote_automaton.proofs.RowLaws.{row_end-cons_zero}
 use Rattle.dialect_rank.specs.Sampled.{Span, filled_rows, is_last_cut, without_last, sampled_spans}
 use Rattle.csv_sniffer.specs.LineEnd.{line_end_of, line_end_length, kind_behind_cr}
 use Rattle.csv_sniffer.specs.declared.found.Newline.TheVariants as newline
+use Rattle.table_laws.proofs.Divisions.{and_first}
 use Rattle.table_laws.proofs.EarlyRows.{EndEarly, early-take, early-rows}
 use Rattle.table_laws.proofs.HeadRow.{FirstSpan, spans_from, spans_from-cons, further, first_end}
 use Rattle.table_laws.proofs.WrittenSample.{FirstRow, sampled}
@@ -40,10 +41,6 @@ line_end_is d b bytes ends = by_tests (b == 10) (b == 13) ends where
   by_tests true u h = omega arith
   by_tests false true h = some_length b bytes
   by_tests false false h = absurd (no_line_end (b == d.delim) (is_byte d.quote b) (is_byte d.escape b) (is_byte d.comment b) h)
-
-and_first : (a b : Bool) → (a && b) ≡ true → a ≡ true
-and_first true b h = refl
-and_first false b h = absurd (let no : ⊥ = cc in no)
 
 -- a place at the end of some bytes, or at a line end of theirs
 abbrev EndsThere : List ℕ → ℕ → Type 0

@@ -43,7 +43,7 @@ given_count : (tys : List ColumnType) (most : ℕ) → 1 ≤ length tys → cond
 given_count [] most some = absurd (let no : ⊥ = omega (arith, some) in no)
 given_count (ty ∷ tys) most some = refl
 
-given_types : (tys detected : List ColumnType) → 1 ≤ length tys → cond (is_empty tys) detected tys ≡ tys
+pub given_types : (tys detected : List ColumnType) → 1 ≤ length tys → cond (is_empty tys) detected tys ≡ tys
 given_types [] detected some = absurd (let no : ⊥ = omega (arith, some) in no)
 given_types (ty ∷ tys) detected some = refl
 

@@ -100,6 +100,18 @@ InputsAreReadByParts = (o : Options) (input : List ℕ) (size : ℕ) → let s =
 abbrev pub alone : Options → Sniffed → Options
 alone o s = record (with_dialect o s.dialect) { header = Some s.header; types = s.types; column_types = record { names = []; types = [] }; all_varchar = false }
 
+-- in a text behind a head the same dialect, names and types are found, and its data begin behind the head
+pub record IsFoundBehind (o : Options) (s : Sniffed) (head text : List ℕ) : Type 0 where
+  pub dialect : (found o (head ++ text)).dialect ≡ s.dialect
+  pub names : (found o (head ++ text)).names ≡ s.names
+  pub types : (found o (head ++ text)).types ≡ s.types
+  pub place : data_place o (head ++ text) (found o (head ++ text)) ≡ length head
+
+-- so in each part, as found in the input
+abbrev pub PartsAreFoundAlike : Type 0
+PartsAreFoundAlike = (o : Options) (input : List ℕ) (size : ℕ) → IsAccepted o → let s = found o input in
+    All (λ part. IsFoundBehind (alone o s) s (head_of o input) (part_bytes input part)) (input_parts o input size)
+
 -- the rows of an input are those of its parts, each loaded alone behind the head, end to end, and so are its faults
 abbrev pub PartsAreLoadedAlone : Type 0
 PartsAreLoadedAlone = (o : Options) (input : List ℕ) (size : ℕ) → IsAccepted o →

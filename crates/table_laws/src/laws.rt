@@ -1,6 +1,6 @@
 //! Laws over the definitions.
 ghost use Rattle.table_laws.specs.Laws.{WrittenTableIsWritten, WrittenTableReadsBack};
-ghost use Rattle.table_laws.specs.PartLaws.{CutsAreReadAlone, FirstFaultsAreOfParts, InputsAreReadByParts, PartRowsAreCounted, PartsAreLoadedAlone, PartsAreReadAlone};
+ghost use Rattle.table_laws.specs.PartLaws.{CutsAreReadAlone, FirstFaultsAreOfParts, InputsAreReadByParts, PartRowsAreCounted, PartsAreFoundAlike, PartsAreLoadedAlone, PartsAreReadAlone};
 
 /// A written table is a text of RFC 4180's grammar.
 pub fn written_table_is_written()
@@ -26,6 +26,11 @@ pub fn parts_are_read_alone()
 /// what is found in the input.
 pub fn inputs_are_read_by_parts()
     ensures { InputsAreReadByParts }
+{}
+
+/// With what was found in an input given, the same is found in each part of it behind the head, and its data begin there.
+pub fn parts_are_found_alike()
+    ensures { PartsAreFoundAlike }
 {}
 
 /// Each part of an input is loaded alone, behind the head, under what is found in the input: its rows and faults, end to
