@@ -1,5 +1,5 @@
 -- Several files with one more.
-use Rattle.std.proofs.Common.{◌≡◌, ℕ, zero, suc, ◌+◌, ◌<◌, ◌||◌, Bool, true, false, cond, List, [], ◌∷◌, ◌++◌, map, length, None, Some, refl, sym, ap, ◌∙◌, arith, append-nil, subst}
+use Rattle.std.proofs.Common.{◌≡◌, ℕ, zero, suc, ◌+◌, ◌<◌, ◌||◌, Bool, true, false, cond, List, [], ◌∷◌, ◌++◌, map, length, Option, None, Some, refl, sym, ap, ◌∙◌, arith, append-nil, subst}
 use Rattle.std.specs.Prelude.{flat_map, slice_get, sum, All}
 use Rattle.std.proofs.lemmas.List.{map-append}
 use Rattle.std.proofs.lemmas.List.Concat.{flat_map-append}
@@ -17,9 +17,9 @@ use Rattle.file_list.specs.BatchView.{BatchView, with_file}
 use Rattle.report_text.specs.declared.outcome.Stats.{Stats}
 use Rattle.loader_reply.specs.declared.batch.Load.{Load}
 use Rattle.loader_reply.specs.declared.batch.Load.TheVariants as loads
-use Rattle.loader_reply.specs.declared.loading.FileLoad.{FileLoad}
-use Rattle.loader_reply.specs.declared.loading.FileLoad.TheVariants as file_loads
-use Rattle.loader_reply.specs.declared.loading.LoadedData.{LoadedData}
+use Rattle.window_load.specs.declared.data_read.DataRead.{DataRead}
+use Rattle.window_load.specs.declared.data_read.WindowRead.{WindowRead}
+use Rattle.window_load.specs.declared.data_read.WindowRead.TheVariants as reads
 use Rattle.loader_reply.specs.Batch.{readings_from, books_of, batch_of, batch_error, both_stats, file_stats, batch_stats, load_of, other_header_in, unless_error, unless_headed_otherwise, CanJoin, HasFiles, IsPrintableFiles, no_files, with_load}
 use Rattle.loader_reply.specs.Loading.{is_headed_otherwise, IsFileLoad, IsLaterLoad}
 use Rattle.loader_reply.specs.Reading.{file_reading, table_rows, faults, keep_of, ending_error}
@@ -101,7 +101,7 @@ other_later o s (n ∷ names) (i ∷ inputs) name input same is =
 
 -- ---- one more file
 
-pub later_is_next : (o : Options) (s : Sniffed) (n : ℕ) (input : List ℕ) (load : FileLoad) → 0 < n → IsLaterLoad o s n input load → IsNextLoad o s n input load
+pub later_is_next : (o : Options) (s : Sniffed) (n : ℕ) (input : List ℕ) (load : Option WindowRead) → 0 < n → IsLaterLoad o s n input load → IsNextLoad o s n input load
 later_is_next o s zero input load there is = absurd (let wrong : ⊥ = omega (arith, there) in wrong)
 later_is_next o s (suc n) input load there is = is
 
@@ -146,27 +146,24 @@ module _ (o : Options) (s : Sniffed) (names inputs : List (List ℕ)) (name inpu
   abbrev OtherStays : Type 0
   OtherStays = other_so_far o s names inputs ≡ None → other_so_far o s (names ++ name ∷ []) (inputs ++ input ∷ []) ≡ None
 
-  whole_more : OtherStays → (batch : BatchView) (stats : Stats) (file : FileLoad) → length names ≡ length inputs → IsSoFarLoad o s names inputs (loads.Whole batch stats) → IsFileLoad o s (length inputs) input file →
-      IsSoFarLoad o s (names ++ name ∷ []) (inputs ++ input ∷ []) (with_load (loads.Whole batch stats) name file)
-  whole_more alike batch stats (file_loads.FirstError reject) same is read = (alike is.0, error-more ∙ error_later on (flat_map faults before) (faults vs) is.1 ∙ read)
-  whole_more alike batch stats (file_loads.Whole loaded) same is read = (
+  whole_more : OtherStays → (batch : BatchView) (stats : Stats) (file : WindowRead) → length names ≡ length inputs → IsSoFarLoad o s names inputs (loads.Whole batch stats) → IsFileLoad o s (length inputs) input file →
+      IsSoFarLoad o s (names ++ name ∷ []) (inputs ++ input ∷ []) (with_load (loads.Whole batch stats) name (Some file))
+  whole_more alike batch stats (reads.Stopped reject) same is read = (alike is.0, error-more ∙ error_later on (flat_map faults before) (faults vs) is.1 ∙ read)
+  whole_more alike batch stats (reads.All got) same is read = (
     alike is.0,
     error-more ∙ error_later on (flat_map faults before) (faults vs) is.1 ∙ read.0,
     (λ i. with_file (is.2 i) (read.1.rows i) (record { name = name; book = read.1.book i })) ∙ sym (batch-more same),
     (λ i. both_stats (is.3 i) (read.1.stats i)) ∙ sym stats-more,
   )
-  whole_more alike batch stats file_loads.OtherHeader same is read = absurd read
 
   error_kept : OtherStays → (reject : Reject) → IsSoFarLoad o s names inputs (loads.FirstError reject) → IsSoFarLoad o s (names ++ name ∷ []) (inputs ++ input ∷ []) (loads.FirstError reject)
   error_kept alike reject is = (alike is.0, error-more ∙ error_stays on (flat_map faults before) (faults vs) reject is.1)
 
 -- the first one
 module _ (o : Options) (s : Sniffed) (name input : List ℕ) where
-  first_one : (load : Load) (file : FileLoad) → IsSoFarLoad o s [] [] load → IsFileLoad o s 0 input file → IsSoFarLoad o s (name ∷ []) (input ∷ []) (with_load load name file)
+  first_one : (load : Load) (file : WindowRead) → IsSoFarLoad o s [] [] load → IsFileLoad o s 0 input file → IsSoFarLoad o s (name ∷ []) (input ∷ []) (with_load load name (Some file))
   first_one (loads.Whole batch stats) file is read = whole_more o s [] [] name input (λ none. none) batch stats file refl is read
-  first_one (loads.FirstError reject) (file_loads.Whole loaded) is read = error_kept o s [] [] name input (λ none. none) reject is
-  first_one (loads.FirstError reject) (file_loads.FirstError later) is read = error_kept o s [] [] name input (λ none. none) reject is
-  first_one (loads.FirstError reject) file_loads.OtherHeader is read = absurd read
+  first_one (loads.FirstError reject) file is read = error_kept o s [] [] name input (λ none. none) reject is
   first_one (loads.OtherHeader first) file is read = absurd (let wrong : ⊥ = cc in wrong)
 
 -- one behind the first
@@ -180,36 +177,35 @@ module _ (o : Options) (s : Sniffed) (n i : List ℕ) (names inputs : List (List
   one_more_other : other_so_far o s (n ∷ names) (i ∷ inputs) ≡ None → is_headed_otherwise o s input ≡ true → IsSoFarLoad o s (n ∷ (names ++ name ∷ [])) (i ∷ (inputs ++ input ∷ [])) (loads.OtherHeader name)
   one_more_other none other = other_later o s names inputs name input same none ∙ ap (λ t. cond t (Some name) None) other
 
-  later_one : (load : Load) (file : FileLoad) → IsSoFarLoad o s (n ∷ names) (i ∷ inputs) load → IsLaterLoad o s with_one input file →
+  later_one : (load : Load) (file : Option WindowRead) → IsSoFarLoad o s (n ∷ names) (i ∷ inputs) load → IsLaterLoad o s with_one input file →
       IsSoFarLoad o s (n ∷ (names ++ name ∷ [])) (i ∷ (inputs ++ input ∷ [])) (with_load load name file)
-  later_one (loads.Whole batch stats) (file_loads.Whole loaded) is read = whole_more o s (n ∷ names) (i ∷ inputs) name input (none_more read.0) batch stats (file_loads.Whole loaded) (ap suc same) is read.1
-  later_one (loads.Whole batch stats) (file_loads.FirstError reject) is read = whole_more o s (n ∷ names) (i ∷ inputs) name input (none_more read.0) batch stats (file_loads.FirstError reject) (ap suc same) is read.1
-  later_one (loads.Whole batch stats) file_loads.OtherHeader is read = one_more_other is.0 read
-  later_one (loads.FirstError reject) (file_loads.Whole loaded) is read = error_kept o s (n ∷ names) (i ∷ inputs) name input (none_more read.0) reject is
-  later_one (loads.FirstError reject) (file_loads.FirstError later) is read = error_kept o s (n ∷ names) (i ∷ inputs) name input (none_more read.0) reject is
-  later_one (loads.FirstError reject) file_loads.OtherHeader is read = one_more_other is.0 read
+  later_one (loads.Whole batch stats) None is read = one_more_other is.0 read
+  later_one (loads.Whole batch stats) (Some file) is read = whole_more o s (n ∷ names) (i ∷ inputs) name input (none_more read.0) batch stats file (ap suc same) is read.1
+  later_one (loads.FirstError reject) None is read = one_more_other is.0 read
+  later_one (loads.FirstError reject) (Some file) is read = error_kept o s (n ∷ names) (i ∷ inputs) name input (none_more read.0) reject is
   later_one (loads.OtherHeader first) file is read = other_stays o s names inputs name input first is
 
 module _ (o : Options) (s : Sniffed) (name input : List ℕ) where
-  pub one_more : (names inputs : List (List ℕ)) (load : Load) (file : FileLoad) → length names ≡ length inputs → IsSoFarLoad o s names inputs load → IsNextLoad o s (length inputs) input file →
+  pub one_more : (names inputs : List (List ℕ)) (load : Load) (file : Option WindowRead) → length names ≡ length inputs → IsSoFarLoad o s names inputs load → IsNextLoad o s (length inputs) input file →
       IsSoFarLoad o s (names ++ name ∷ []) (inputs ++ input ∷ []) (with_load load name file)
-  one_more [] [] load file same is read = first_one o s name input load file is read
+  one_more [] [] load None same is read = absurd read
+  one_more [] [] load (Some file) same is read = first_one o s name input load file is read
   one_more [] (i ∷ inputs) load file same is read = absurd (let wrong : ⊥ = omega (arith, same) in wrong)
   one_more (n ∷ names) [] load file same is read = absurd (let wrong : ⊥ = omega (arith, same) in wrong)
   one_more (n ∷ names) (i ∷ inputs) load file same is read = let others : length names ≡ length inputs = omega (arith, same) in later_one o s n i names inputs name input others load file is read
 
 -- the types of a file that was loaded whole
-whole_types : (o : Options) (s : Sniffed) (number : ℕ) (input : List ℕ) (loaded : LoadedData) → IsNextLoad o s number input (file_loads.Whole loaded) → loaded.table.types ≡ s.types
-whole_types o s zero input loaded read = read.1.types
-whole_types o s (suc n) input loaded read = read.1.1.types
+whole_types : (o : Options) (s : Sniffed) (number : ℕ) (input : List ℕ) (got : DataRead) → IsNextLoad o s number input (Some (reads.All got)) → got.joined.table.types ≡ s.types
+whole_types o s zero input got read = read.1.types
+whole_types o s (suc n) input got read = read.1.1.types
 
 module _ (o : Options) (s : Sniffed) (names inputs : List (List ℕ)) (input : List ℕ) where
-  pub can_join : (number : ℕ) (load : Load) (file : FileLoad) → IsSoFarLoad o s names inputs load → IsNextLoad o s number input file → CanJoin load file
+  pub can_join : (number : ℕ) (load : Load) (file : Option WindowRead) → IsSoFarLoad o s names inputs load → IsNextLoad o s number input file → CanJoin load file
   can_join number (loads.FirstError reject) file is read = tt
   can_join number (loads.OtherHeader name) file is read = tt
-  can_join number (loads.Whole batch stats) (file_loads.FirstError reject) is read = tt
-  can_join number (loads.Whole batch stats) file_loads.OtherHeader is read = tt
-  can_join number (loads.Whole batch stats) (file_loads.Whole loaded) is read = ap (λ (b : BatchView). b.types) is.2 ∙ sym (whole_types o s number input loaded read)
+  can_join number (loads.Whole batch stats) (Some (reads.Stopped reject)) is read = tt
+  can_join number (loads.Whole batch stats) None is read = tt
+  can_join number (loads.Whole batch stats) (Some (reads.All got)) is read = ap (λ (b : BatchView). b.types) is.2 ∙ sym (whole_types o s number input got read)
 
 -- ---- all of them
 

@@ -10,7 +10,7 @@ use Rattle.csv_sniffer.specs.Input.{found}
 use Rattle.report_text.specs.declared.outcome.Outcome.{Outcome}
 use Rattle.report_text.specs.declared.outcome.Outcome.TheVariants as outcomes
 use Rattle.loader_reply.specs.declared.batch.Load.{Load}
-use Rattle.loader_reply.specs.declared.loading.FileLoad.{FileLoad}
+use Rattle.window_load.specs.declared.data_read.WindowRead.{WindowRead}
 use Rattle.loader_reply.specs.Batch.{found_in_first, batch_refusal, last_read, load_of, no_files, with_load, AreOpened, AreRead, CanJoin, HasFiles, IsLoadOf, IsOver, IsPrintableFiles, IsReadWhole, IsReadOver, LacksOne}
 use Rattle.loader_reply.specs.Loading.{IsFileLoad, IsInput, IsLaterLoad}
 use Rattle.loader_reply.specs.SoFar.{AreOf, AreShort, AreSoFar, IsFoundIn, IsNextLoad, IsSoFar, LeavesNone, ReadsNext, Told}
@@ -177,7 +177,7 @@ pub none_so_far : (o : Options) (s : Sniffed) (held : Told) (all : List (List �
 none_so_far o s held all = record { read = none_read o.max_input held all; numbered = refl; found_in = tt; loads = none_loaded o s }
 
 module _ (o : Options) (s : Sniffed) (held : Told) (all : List (List ℕ)) (name : List ℕ) (later : List (List ℕ)) (number : ℕ) (load : Load) (is : IsSoFar o s held all (name ∷ later) number load) (left : Option (List ℕ)) where
-  pub next_file : (file : FileLoad) (read : IsReadWhole o.max_input held name left (λ input. IsNextLoad o s number input file)) → (number ≡ 0 → s ≡ found o read.0) →
+  pub next_file : (file : Option WindowRead) (read : IsReadWhole o.max_input held name left (λ input. IsNextLoad o s number input file)) → (number ≡ 0 → s ≡ found o read.0) →
       IsSoFar o s held all later (number + 1) (with_load load name file)
   next_file file read first = record {
     read = one_more_read o.max_input held all name later is.read left read.0 read.1 read.2;
@@ -187,18 +187,18 @@ module _ (o : Options) (s : Sniffed) (held : Told) (all : List (List ℕ)) (name
   }
 
 -- one file as it was read
-module _ (o : Options) (s : Sniffed) (held : Told) (name : List ℕ) (left : Option (List ℕ)) (file : FileLoad) where
-  pub first_joins : IsReadWhole o.max_input held name left (λ input. (s ≡ found o input) × IsFileLoad o s 0 input file) → CanJoin (no_files s.types) file
-  first_joins read = can_join o s [] [] read.0 0 (no_files s.types) file (none_loaded o s) read.3.1
+module _ (o : Options) (s : Sniffed) (held : Told) (name : List ℕ) (left : Option (List ℕ)) where
+  pub first_joins : (file : WindowRead) → IsReadWhole o.max_input held name left (λ input. (s ≡ found o input) × IsFileLoad o s 0 input file) → CanJoin (no_files s.types) (Some file)
+  first_joins file read = can_join o s [] [] read.0 0 (no_files s.types) (Some file) (none_loaded o s) read.3.1
 
-  pub reads_first : IsReadWhole o.max_input held name left (λ input. (s ≡ found o input) × IsFileLoad o s 0 input file) →
-      ReadsNext o s held name 0 (no_files s.types) (with_load (no_files s.types) name file) left
-  reads_first read = (
-    λ all later so_far. next_file o s held all name later 0 (no_files s.types) so_far left file (read.0, read.1, read.2, read.3.1) (λ zero. read.3.0),
+  pub reads_first : (file : WindowRead) → IsReadWhole o.max_input held name left (λ input. (s ≡ found o input) × IsFileLoad o s 0 input file) →
+      ReadsNext o s held name 0 (no_files s.types) (with_load (no_files s.types) name (Some file)) left
+  reads_first file read = (
+    λ all later so_far. next_file o s held all name later 0 (no_files s.types) so_far left (Some file) (read.0, read.1, read.2, read.3.1) (λ zero. read.3.0),
     (one_read o.max_input held name read.0 left read.1 read.2).1,
   )
 
-  module _ (number : ℕ) (there : 0 < number) (load : Load) (read : IsReadWhole o.max_input held name left (λ input. IsLaterLoad o s number input file)) where
+  module _ (file : Option WindowRead) (number : ℕ) (there : 0 < number) (load : Load) (read : IsReadWhole o.max_input held name left (λ input. IsLaterLoad o s number input file)) where
     abbrev next : IsReadWhole o.max_input held name left (λ input. IsNextLoad o s number input file)
     next = (read.0, read.1, read.2, later_is_next o s number read.0 file there read.3)
 

@@ -1,5 +1,5 @@
 -- The load of an input by its head and what comes behind it.
-use Rattle.std.proofs.Common.{◌≡◌, ℕ, ◌≤◌, true, List, [], ◌++◌, length, take, drop, Option, None, refl, subst}
+use Rattle.std.proofs.Common.{◌≡◌, ℕ, ◌≤◌, true, List, [], ◌++◌, length, take, drop, Option, None, refl, sym, ap, ◌∙◌, subst}
 use Rattle.byte_classes.specs.LineEnds.{line_ends}
 use Rattle.load_options.specs.declared.options.Options.{Options}
 use Rattle.csv_sniffer.specs.declared.found.Sniffed.{Sniffed}
@@ -9,9 +9,7 @@ use Rattle.window_load.specs.DataRead.{IsWindowRead, ComesWhole}
 use Rattle.window_load.specs.Window.{WindowView}
 use Rattle.window_load.specs.declared.data_read.WindowRead.{WindowRead}
 use Rattle.window_load.specs.declared.data_read.WindowRead.TheVariants.{All, Stopped}
-use Rattle.loader_reply.specs.declared.loading.FileLoad.{FileLoad}
-use Rattle.loader_reply.specs.declared.loading.FileLoad.TheVariants.{Whole, FirstError, OtherHeader}
-use Rattle.loader_reply.specs.Loading.{IsHead, IsFileLoad, IsRaisedRead, context_of, stops_at_error}
+use Rattle.loader_reply.specs.Loading.{IsHead, IsFileLoad, context_of, raised_read, stops_at_error}
 use Rattle.loader_reply.proofs.HeadSteps.{comes_weaker, placed_in_all, lines_in_all}
 use Rattle.loader_reply.proofs.Loads.{first_error, whole_load}
 
@@ -20,20 +18,16 @@ module _ (o : Options) (head : WindowView) (is : IsHead o.skip o.max_input head)
   abbrev lines : ℕ
   lines = line_ends None (take start head.kept)
 
-  by_read : (load : FileLoad) (read : WindowRead) (came : List ℕ) → (head.ended ≡ true → came ≡ []) → IsWindowRead context (drop start (head.kept ++ came)) start o.range_size (stops_at_error o) read →
-      IsRaisedRead context.keep lines read load → IsFileLoad o s file_id (head.kept ++ came) load
-  by_read (Whole loaded) (All got) came quiet is_read raises =
+  by_read : (read : WindowRead) (came : List ℕ) → (head.ended ≡ true → came ≡ []) → IsWindowRead context (drop start (head.kept ++ came)) start o.range_size (stops_at_error o) read →
+      IsFileLoad o s file_id (head.kept ++ came) (raised_read context.keep lines read)
+  by_read (All got) came quiet is_read =
       whole_load o s file_id (head.kept ++ came) start context o.range_size lines (stops_at_error o) (placed_in_all o head is came quiet s start place)
-      is_context refl refl (lines_in_all o head is came quiet start within) got loaded is_read raises
-  by_read (FirstError reject) (Stopped first) came quiet is_read is_reject =
+      is_context refl refl (lines_in_all o head is came quiet start within) got is_read
+  by_read (Stopped first) came quiet is_read =
       first_error o s file_id (head.kept ++ came) start context o.range_size lines (stops_at_error o) (placed_in_all o head is came quiet s start place)
-      is_context refl refl (lines_in_all o head is came quiet start within) first reject is_read is_reject
-  by_read (Whole loaded) (Stopped first) came quiet is_read none = absurd none
-  by_read (FirstError reject) (All got) came quiet is_read none = absurd none
-  by_read OtherHeader (All got) came quiet is_read none = absurd none
-  by_read OtherHeader (Stopped first) came quiet is_read none = absurd none
+      is_context refl refl (lines_in_all o head is came quiet start within) first is_read
 
-  pub load_comes : (read : WindowRead) (load : FileLoad) (n : ℕ) → n ≡ lines → IsRaisedRead context.keep n read load →
+  pub load_comes : (read load : WindowRead) (n : ℕ) → n ≡ lines → load ≡ raised_read context.keep n read →
       ComesWhole before after head (λ input. IsWindowRead context (drop start input) start o.range_size (stops_at_error o) read) → ComesWhole before after head (λ input. IsFileLoad o s file_id input load)
   load_comes read load n same raises = comes_weaker before after head (λ input. IsWindowRead context (drop start input) start o.range_size (stops_at_error o) read) (λ input. IsFileLoad o s file_id input load)
-      (λ came quiet is_read. by_read load read came quiet is_read (subst (λ k. IsRaisedRead context.keep k read load) same raises))
+      (λ came quiet is_read. subst (IsFileLoad o s file_id (head.kept ++ came)) (sym (raises ∙ ap (λ k. raised_read context.keep k read) same)) (by_read read came quiet is_read))

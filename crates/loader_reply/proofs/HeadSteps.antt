@@ -11,8 +11,7 @@ use Rattle.csv_sniffer.specs.Input.{found, data_place, has_same_header, place_un
 use Rattle.window_load.specs.DataRead.{ComesWhole, ComesOver}
 use Rattle.window_load.specs.Window.{WindowView, reach, no_bytes, ReachesOn}
 use Rattle.loader_reply.specs.Loading.{is_headed_otherwise, later_start, IsHead, IsFileLoad, IsLaterLoad}
-use Rattle.loader_reply.specs.declared.loading.FileLoad.{FileLoad}
-use Rattle.loader_reply.specs.declared.loading.FileLoad.TheVariants.{Whole, FirstError, OtherHeader}
+use Rattle.window_load.specs.declared.data_read.WindowRead.{WindowRead}
 use Rattle.report_text.specs.declared.outcome.Outcome.{Outcome}
 use Rattle.loader_reply.specs.Reply.{sniffed_outcome}
 use Rattle.loader_reply.proofs.HeadLaws.{found_in_head, sniffed_in_head}
@@ -72,10 +71,8 @@ module _ (o : Options) (head : WindowView) (is : IsHead o.skip o.max_input head)
   headed_in_all s = ap (λ t. o.same_header && not t) (in_head.3 s)
 
   -- a later file that begins with no other header
-  pub later_load : (s : Sniffed) (file_id : ℕ) (load : FileLoad) → is_headed_otherwise o s head.kept ≡ false → IsFileLoad o s file_id (head.kept ++ came) load → IsLaterLoad o s file_id (head.kept ++ came) load
-  later_load s file_id (Whole loaded) alike is = (headed_in_all s ∙ alike, is)
-  later_load s file_id (FirstError reject) alike is = (headed_in_all s ∙ alike, is)
-  later_load s file_id OtherHeader alike is = absurd is
+  pub later_load : (s : Sniffed) (file_id : ℕ) (read : WindowRead) → is_headed_otherwise o s head.kept ≡ false → IsFileLoad o s file_id (head.kept ++ came) read → IsLaterLoad o s file_id (head.kept ++ came) (Some read)
+  later_load s file_id read alike is = (headed_in_all s ∙ alike, is)
 
   pub lines_in_all : (start : ℕ) → start ≤ length head.kept → line_ends None (take start head.kept) ≡ line_ends None (take start (head.kept ++ came))
   lines_in_all start within = ap (line_ends None) (sym (take-append-le start head.kept came within))

@@ -15,10 +15,8 @@ use Rattle.window_load.specs.DataRead.{data_part as part_of_data, IsDataRead, Is
 use Rattle.window_load.specs.declared.data_read.DataRead.{DataRead}
 use Rattle.window_load.specs.declared.data_read.WindowRead.{WindowRead}
 use Rattle.window_load.specs.declared.data_read.WindowRead.TheVariants.{All, Stopped}
-use Rattle.loader_reply.specs.declared.loading.FileLoad.TheVariants.{Whole, FirstError}
-use Rattle.loader_reply.specs.declared.loading.LoadedData.{LoadedData}
 use Rattle.loader_reply.specs.Laws.{AreOfPart, data_part}
-use Rattle.loader_reply.specs.Loading.{IsFileLoad, IsRaised, KeepsAs, context_of, stops_at_error}
+use Rattle.loader_reply.specs.Loading.{IsFileLoad, KeepsAs, context_of, raised_data, stops_at_error}
 use Rattle.loader_reply.specs.Reading.{schema_of, file_reading, faults, stats_of}
 use Rattle.loader_reply.proofs.GroupReading.{reading_is_of_part}
 
@@ -39,7 +37,7 @@ has_columns o s file_id context columns is_context = subst (λ (c : Context). Ha
 
 -- the rejects of what was read are kept as the context says
 pub keeps_as : (context : Context) (text : List ℕ) (start size : ℕ) (stop : Bool) (read : WindowRead) → IsWindowRead context text start size stop read → KeepsAs context.keep read
-keeps_as context text start size stop (All got) is = ap (λ b. b.keep) is.0.book
+keeps_as context text start size stop (All got) is = ap (λ b. b.keep) is.0.part.book
 keeps_as context text start size stop (Stopped first) is = tt
 
 -- ---- the verdicts of the input are those of the bytes that are read
@@ -60,28 +58,25 @@ module _ (o : Options) (s : Sniffed) (file_id : ℕ) (input : List ℕ) (start :
       (subst (λ (c : Context). AreOfPart (file_reading o s file_id input) (line_ends None (take start input)) (part_of_data c bytes start)) (sym is_context)
       (of_place o s file_id input start at))
 
-  pub first_error : (first reject : Reject) → IsWindowRead context bytes start size stop (Stopped first) → reject ≡ raised lines first → IsFileLoad o s file_id input (FirstError reject)
-  first_error first reject read is_reject =
-      the_error (o.ignore_errors || o.store_rejects) (faults (file_reading o s file_id input)) reject (sym is_stop ∙ read.0)
+  pub first_error : (first : Reject) → IsWindowRead context bytes start size stop (Stopped first) → IsFileLoad o s file_id input (Stopped (raised lines first))
+  first_error first read =
+      the_error (o.ignore_errors || o.store_rejects) (faults (file_reading o s file_id input)) (raised lines first) (sym is_stop ∙ read.0)
       (ap (λ rs. slice_get rs 0) of_data.faults
       ∙ slice_get-map (raised lines) (part_of_data context bytes start).faults 0
-      ∙ ap (option_map (raised lines)) read.1
-      ∙ ap (λ r. Some r) (sym is_reject))
+      ∙ ap (option_map (raised lines)) read.1)
 
-  pub whole_load : (read : DataRead) (loaded : LoadedData) → IsWindowRead context bytes start size stop (All read) → IsRaised context.keep lines read loaded → IsFileLoad o s file_id input (Whole loaded)
-  whole_load read loaded is_read raises = let got : IsDataRead context bytes start size read = is_read.0 in (
+  pub whole_load : (read : DataRead) → IsWindowRead context bytes start size stop (All read) → IsFileLoad o s file_id input (All (raised_data context.keep lines read))
+  whole_load read is_read = let got : IsDataRead context bytes start size read = is_read.0 in (
     no_error (o.ignore_errors || o.store_rejects) (faults (file_reading o s file_id input)) (λ stops. of_data.faults ∙ ap (map (raised lines)) (is_read.1 (is_stop ∙ stops))),
     record {
-      types = ap (λ t. t.types) raises.table ∙ got.types ∙ ap (λ (c : Context). c.schema.types) is_context;
-      rows = ap (λ t. t.rows) raises.table ∙ got.rows ∙ sym of_data.rows;
+      types = got.part.types ∙ ap (λ (c : Context). c.schema.types) is_context;
+      rows = got.part.rows ∙ sym of_data.rows;
       book =
-          raises.book
-          ∙ ap (joined lines (book_of context.keep [])) got.book
+          ap (joined lines (book_of context.keep [])) got.part.book
           ∙ joined_is_book context.keep lines [] (part_of_data context bytes start).faults
           ∙ (λ i. book_of (is_context i).keep ((sym of_data.faults) i));
       stats =
-          raises.stats
-          ∙ (λ i. record { ranges = got.ranges i; rescans = got.rescanned_ranges i; scanned = (ap (λ n. n + read.rescanned) got.bytes ∙ got.scanned) i })
+          (λ i. record { ranges = got.ranges i; rescans = got.rescanned_ranges i; scanned = (ap (λ n. n + read.joined.rescanned) got.bytes ∙ got.scanned) i })
           ∙ (λ i. stats_of (record o { range_size = is_size i }) ((is_context i).dialect) (drop (at i) input));
     },
   )

@@ -12,7 +12,7 @@ use Rattle.window_load.specs.Groups.{group_reach}
 use Rattle.window_load.specs.Window.{WindowView, reach, behind_front, fill_limit}
 use Rattle.loader_reply.specs.Batch.{IsOpened, IsReadOver, IsReadWhole}
 use Rattle.loader_reply.specs.Loading.{IsFileLoad, IsHead, IsFinding, IsSniffedHead, GoesBehindSample}
-use Rattle.loader_reply.specs.declared.loading.FileLoad.{FileLoad}
+use Rattle.window_load.specs.declared.data_read.WindowRead.{WindowRead}
 use Rattle.loader_reply.specs.declared.sniffed_head.SniffedHead.{SniffedHead}
 use Rattle.loader_reply.proofs.HeadFiles.{whole_file, over_file}
 use Rattle.loader_reply.proofs.HeadLaws.{start-more}
@@ -79,7 +79,7 @@ module _ (o : Options) (held : Option (List (List ℕ × List ℕ))) (name : Lis
   still : IsOpened held name (λ first. Consumes first after read.head.kept)
   still = still_opened held name before after head.kept read.head.kept opened is.moved
 
-  pub first_whole : (load : FileLoad) → ComesWhole after left read.head (λ input. IsFileLoad o s 0 input load) → IsReadWhole o.max_input held name left (λ input. (s ≡ found o input) × IsFileLoad o s 0 input load)
+  pub first_whole : (load : WindowRead) → ComesWhole after left read.head (λ input. IsFileLoad o s 0 input load) → IsReadWhole o.max_input held name left (λ input. (s ≡ found o input) × IsFileLoad o s 0 input load)
   first_whole load = whole_file o.max_input held name after left read.head is.head.limit still (λ input. IsFileLoad o s 0 input load) (λ input. (s ≡ found o input) × IsFileLoad o s 0 input load)
       (λ came quiet loads. (found_in_all o read.head is.head came quiet s is.finding.sniffed, loads))
 

@@ -20,10 +20,10 @@ use Rattle.load_options.specs.FileNames.{file_names}
 use Rattle.value_types.specs.declared.types.ColumnType.{ColumnType}
 use Rattle.loader_reply.specs.declared.batch.Load.{Load}
 use Rattle.loader_reply.specs.declared.batch.Load.TheVariants as loads
-use Rattle.loader_reply.specs.declared.loading.FileLoad.{FileLoad}
-use Rattle.loader_reply.specs.declared.loading.FileLoad.TheVariants as file_loads
-use Rattle.loader_reply.specs.declared.loading.LoadedData.{LoadedData}
-use Rattle.loader_reply.specs.Loading.{is_headed_otherwise, IsInput}
+use Rattle.window_load.specs.declared.data_read.DataRead.{DataRead}
+use Rattle.window_load.specs.declared.data_read.WindowRead.{WindowRead}
+use Rattle.window_load.specs.declared.data_read.WindowRead.TheVariants as reads
+use Rattle.loader_reply.specs.Loading.{is_headed_otherwise, read_stats, IsInput}
 
 -- ---- files that are all there
 
@@ -129,31 +129,26 @@ abbrev pub no_files : List ColumnType → Load
 no_files tys = loads.Whole (record { types = tys; rows = []; files = [] }) (record { ranges = 0; rescans = 0; scanned = 0 })
 
 -- all files so far with all of one more
-abbrev pub with_loaded : BatchView → Stats → List ℕ → LoadedData → Load
-with_loaded batch stats name loaded =
-    loads.Whole (with_file batch loaded.table.rows (record { name = name; book = loaded.book })) (both_stats stats loaded.stats)
+abbrev pub with_read : BatchView → Stats → List ℕ → DataRead → Load
+with_read batch stats name read =
+    loads.Whole (with_file batch read.joined.table.rows (record { name = name; book = read.joined.book })) (both_stats stats (read_stats read))
 
--- behind a first error, which stays unless one more file begins with another header
-abbrev pub behind_error : Reject → List ℕ → FileLoad → Load
-behind_error reject name (file_loads.Whole loaded) = loads.FirstError reject
-behind_error reject name (file_loads.FirstError later) = loads.FirstError reject
-behind_error reject name file_loads.OtherHeader = loads.OtherHeader name
-
--- with what one more file comes to; a header that is another one stays
-abbrev pub with_load : Load → List ℕ → FileLoad → Load
+-- with what one more file comes to, none where it begins with another header, which stays; a first error stays unless it does
+abbrev pub with_load : Load → List ℕ → Option WindowRead → Load
 with_load (loads.OtherHeader first) name load = loads.OtherHeader first
-with_load (loads.FirstError reject) name load = behind_error reject name load
-with_load (loads.Whole batch stats) name (file_loads.Whole loaded) = with_loaded batch stats name loaded
-with_load (loads.Whole batch stats) name (file_loads.FirstError reject) = loads.FirstError reject
-with_load (loads.Whole batch stats) name file_loads.OtherHeader = loads.OtherHeader name
+with_load (loads.FirstError reject) name None = loads.OtherHeader name
+with_load (loads.FirstError reject) name (Some read) = loads.FirstError reject
+with_load (loads.Whole batch stats) name None = loads.OtherHeader name
+with_load (loads.Whole batch stats) name (Some (reads.Stopped reject)) = loads.FirstError reject
+with_load (loads.Whole batch stats) name (Some (reads.All read)) = with_read batch stats name read
 
 -- tables that are joined have the same types
-abbrev pub CanJoin : Load → FileLoad → Type 0
+abbrev pub CanJoin : Load → Option WindowRead → Type 0
 CanJoin (loads.FirstError reject) load = ⊤
 CanJoin (loads.OtherHeader first) load = ⊤
-CanJoin (loads.Whole batch stats) (file_loads.FirstError reject) = ⊤
-CanJoin (loads.Whole batch stats) file_loads.OtherHeader = ⊤
-CanJoin (loads.Whole batch stats) (file_loads.Whole loaded) = batch.types ≡ loaded.table.types
+CanJoin (loads.Whole batch stats) None = ⊤
+CanJoin (loads.Whole batch stats) (Some (reads.Stopped reject)) = ⊤
+CanJoin (loads.Whole batch stats) (Some (reads.All read)) = batch.types ≡ read.joined.table.types
 
 -- the names of a word: several, cut at each comma, or the word itself
 abbrev pub names_of : Bool → List ℕ → List (List ℕ)

@@ -11,10 +11,8 @@ use Rattle.range_scan.specs.declared.context.Context.{Context}
 use Rattle.window_load.specs.declared.data_read.DataRead.{DataRead}
 use Rattle.window_load.specs.declared.data_read.WindowRead.{WindowRead}
 use Rattle.window_load.specs.declared.data_read.WindowRead.TheVariants.{All, Stopped}
+use Rattle.report_text.specs.declared.outcome.Stats.{Stats}
 use Rattle.loader_reply.specs.declared.sniffed_head.SniffedHead.{SniffedHead}
-use Rattle.loader_reply.specs.declared.loading.FileLoad.{FileLoad}
-use Rattle.loader_reply.specs.declared.loading.FileLoad.TheVariants.{Whole, FirstError, OtherHeader}
-use Rattle.loader_reply.specs.declared.loading.LoadedData.{LoadedData}
 use Rattle.loader_reply.specs.Reading.{schema_of, file_reading, table_rows, faults, keep_of, ending_error, stats_of}
 use Rattle.csv_sniffer.specs.Sample.{start_of_sample, sample_limit}
 use Rattle.window_load.specs.Groups.{group_reach}
@@ -23,18 +21,21 @@ use Rattle.csv_source.specs.Files.{file_of}
 
 -- ---- the load
 
+-- what the reading of some data took
+abbrev pub read_stats : DataRead → Stats
+read_stats read = record { ranges = read.ranges; rescans = read.joined.rescans; scanned = read.length + read.joined.rescanned }
+
 -- the good rows of the file of a number, its rejects, and what the reading of its data took
-pub record IsLoaded (o : Options) (s : Sniffed) (file_id : ℕ) (input : List ℕ) (loaded : LoadedData) : Type 0 where
-  pub types : loaded.table.types ≡ s.types
-  pub rows : loaded.table.rows ≡ table_rows (file_reading o s file_id input)
-  pub book : loaded.book ≡ book_of (keep_of o) (faults (file_reading o s file_id input))
-  pub stats : loaded.stats ≡ stats_of o s.dialect (drop (place_under o s input) input)
+pub record IsLoaded (o : Options) (s : Sniffed) (file_id : ℕ) (input : List ℕ) (read : DataRead) : Type 0 where
+  pub types : read.joined.table.types ≡ s.types
+  pub rows : read.joined.table.rows ≡ table_rows (file_reading o s file_id input)
+  pub book : read.joined.book ≡ book_of (keep_of o) (faults (file_reading o s file_id input))
+  pub stats : read_stats read ≡ stats_of o s.dialect (drop (place_under o s input) input)
 
 -- all of the data, or the first error where it ends the load
-abbrev pub IsFileLoad : Options → Sniffed → ℕ → List ℕ → FileLoad → Type 0
-IsFileLoad o s file_id input (Whole loaded) = (ending_error o (faults (file_reading o s file_id input)) ≡ None) × IsLoaded o s file_id input loaded
-IsFileLoad o s file_id input (FirstError reject) = ending_error o (faults (file_reading o s file_id input)) ≡ Some reject
-IsFileLoad o s file_id input OtherHeader = ⊥
+abbrev pub IsFileLoad : Options → Sniffed → ℕ → List ℕ → WindowRead → Type 0
+IsFileLoad o s file_id input (All read) = (ending_error o (faults (file_reading o s file_id input)) ≡ None) × IsLoaded o s file_id input read
+IsFileLoad o s file_id input (Stopped reject) = ending_error o (faults (file_reading o s file_id input)) ≡ Some reject
 
 -- whether a later file must begin with the header of the first one, and doesn't
 abbrev pub is_headed_otherwise : Options → Sniffed → List ℕ → Bool
@@ -45,10 +46,9 @@ abbrev pub later_start : Options → Sniffed → List ℕ → Option ℕ
 later_start o s input = if is_headed_otherwise o s input then None else Some (place_under o s input)
 
 -- what a later file's data come to, unless it begins with another header
-abbrev pub IsLaterLoad : Options → Sniffed → ℕ → List ℕ → FileLoad → Type 0
-IsLaterLoad o s file_id input OtherHeader = is_headed_otherwise o s input ≡ true
-IsLaterLoad o s file_id input (Whole loaded) = (is_headed_otherwise o s input ≡ false) × IsFileLoad o s file_id input (Whole loaded)
-IsLaterLoad o s file_id input (FirstError reject) = (is_headed_otherwise o s input ≡ false) × IsFileLoad o s file_id input (FirstError reject)
+abbrev pub IsLaterLoad : Options → Sniffed → ℕ → List ℕ → Option WindowRead → Type 0
+IsLaterLoad o s file_id input None = is_headed_otherwise o s input ≡ true
+IsLaterLoad o s file_id input (Some read) = (is_headed_otherwise o s input ≡ false) × IsFileLoad o s file_id input read
 
 -- ---- how the data are read
 
@@ -60,24 +60,18 @@ context_of o s file_id = record { dialect = s.dialect; schema = schema_of o s; k
 abbrev pub stops_at_error : Options → Bool
 stops_at_error o = not (o.ignore_errors || o.store_rejects)
 
--- what was read of data that have some line ends before them
-pub record IsRaised (keep : Keep) (lines : ℕ) (read : DataRead) (loaded : LoadedData) : Type 0 where
-  pub table : loaded.table ≡ read.table
-  pub book : loaded.book ≡ joined lines (book_of keep []) read.book
-  pub stats : loaded.stats ≡ record { ranges = read.ranges; rescans = read.rescans; scanned = read.length + read.rescanned }
-
 -- the rejects of what was read are kept so
 abbrev pub KeepsAs : Keep → WindowRead → Type 0
-KeepsAs keep (All read) = read.book.keep ≡ keep
+KeepsAs keep (All read) = read.joined.book.keep ≡ keep
 KeepsAs keep (Stopped first) = ⊤
 
--- what the data of a file come to by what was read of them
-abbrev pub IsRaisedRead : Keep → ℕ → WindowRead → FileLoad → Type 0
-IsRaisedRead keep lines (All read) (Whole loaded) = IsRaised keep lines read loaded
-IsRaisedRead keep lines (Stopped first) (FirstError reject) = reject ≡ raised lines first
-IsRaisedRead keep lines (All read) (FirstError reject) = ⊥
-IsRaisedRead keep lines (Stopped first) (Whole loaded) = ⊥
-IsRaisedRead keep lines read OtherHeader = ⊥
+-- what was read of data that have some line ends before them
+abbrev pub raised_data : Keep → ℕ → DataRead → DataRead
+raised_data keep lines read = record read { joined = record read.joined { book = joined lines (book_of keep []) read.joined.book } }
+
+abbrev pub raised_read : Keep → ℕ → WindowRead → WindowRead
+raised_read keep lines (All read) = All (raised_data keep lines read)
+raised_read keep lines (Stopped reject) = Stopped (raised lines reject)
 
 -- ---- the head of an input, which is read before the sample is looked at
 

@@ -6,7 +6,7 @@ use Rattle.csv_sniffer.specs.declared.found.Sniffed.{Sniffed}
 use Rattle.csv_sniffer.specs.Input.{found}
 use Rattle.loader_reply.specs.declared.batch.Load.{Load}
 use Rattle.loader_reply.specs.declared.batch.Load.TheVariants as loads
-use Rattle.loader_reply.specs.declared.loading.FileLoad.{FileLoad}
+use Rattle.window_load.specs.declared.data_read.WindowRead.{WindowRead}
 use Rattle.loader_reply.specs.Batch.{batch_error, batch_of, batch_stats, other_header_in}
 use Rattle.loader_reply.specs.Loading.{IsFileLoad, IsLaterLoad}
 
@@ -48,8 +48,9 @@ IsFoundIn o s [] = ⊤
 IsFoundIn o s (input ∷ inputs) = s ≡ found o input
 
 -- what a file comes to: the first one's header is its own
-abbrev pub IsNextLoad : Options → Sniffed → ℕ → List ℕ → FileLoad → Type 0
-IsNextLoad o s zero input load = IsFileLoad o s 0 input load
+abbrev pub IsNextLoad : Options → Sniffed → ℕ → List ℕ → Option WindowRead → Type 0
+IsNextLoad o s zero input None = ⊥
+IsNextLoad o s zero input (Some read) = IsFileLoad o s 0 input read
 IsNextLoad o s (suc n) input load = IsLaterLoad o s (suc n) input load
 
 -- the later ones of some files begin with another header

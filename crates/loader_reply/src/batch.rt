@@ -1,19 +1,20 @@
 // What files come to, with one more of them.
-ghost use Rattle.std.specs.Prelude.{◌≡◌, [], ◌∷◌, IfOk, OnOk, option_map};
+ghost use Rattle.std.specs.Prelude.{◌≡◌, [], ◌∷◌, Some, None, IfOk, OnOk, option_map};
 ghost use Rattle.load_options.specs.FileNames.{file_names};
-ghost use Rattle.loader_reply.specs.Batch.{both_stats, no_files, with_load, with_loaded, CanJoin, names_behind, names_of};
+ghost use Rattle.loader_reply.specs.Batch.{both_stats, no_files, with_load, with_read, CanJoin, names_behind, names_of};
+ghost use Rattle.loader_reply.specs.Loading.{read_stats};
 ghost use Rattle.loader_reply.specs.declared.batch.Load.TheVariants as loads;
-ghost use Rattle.loader_reply.specs.declared.loading.FileLoad.TheVariants as file_loads;
+ghost use Rattle.window_load.specs.declared.data_read.WindowRead.TheVariants as reads;
 
-use crate::loading::{FileLoad, LoadedData};
 use csv_sniffer::Sniffed;
 use csv_source::{Bytes, NoMemory};
 use file_list::Batch;
+use range_scan::Joined;
 use reject_book::Reject;
 use report_text::Stats;
 use std::alloc::Global;
 use std::mem;
-use window_load::sum_of;
+use window_load::{DataRead, WindowRead, sum_of};
 
 /// What files come to.
 #[derive(Drop)]
@@ -33,14 +34,15 @@ pub struct LoadedFiles {
     pub load: Load,
 }
 
-/// The stats of two files together. What can't be counted counts as want of memory.
-fn both_stats(a: Stats, b: Stats) -> Result<Stats, NoMemory>
-    ensures ok { IfOk result (λ sum. sum ≡ both_stats a b) }
+/// The stats of files with those of one more. What can't be counted counts as want of memory.
+fn stats_with(stats: Stats, read: &DataRead) -> Result<Stats, NoMemory>
+    ensures ok { IfOk result (λ sum. sum ≡ both_stats stats (read_stats read.now)) }
 {
+    let scanned = sum_of(read.length, read.joined.rescanned)?;
     Ok(Stats {
-        ranges: sum_of(a.ranges, b.ranges)?,
-        rescans: sum_of(a.rescans, b.rescans)?,
-        scanned: sum_of(a.scanned, b.scanned)?,
+        ranges: sum_of(stats.ranges, read.ranges)?,
+        rescans: sum_of(stats.rescans, read.joined.rescans)?,
+        scanned: sum_of(stats.scanned, scanned)?,
     })
 }
 
@@ -49,39 +51,40 @@ fn join_file(
     batch: &mut Batch,
     stats: &mut Stats,
     name: Bytes,
-    loaded: LoadedData,
+    read: DataRead,
 ) -> Result<(), NoMemory>
-    requires types { batch.old.types ≡ loaded.table.types }
-    ensures ok { OnOk result (loads.Whole batch.new stats.new ≡ with_loaded batch.old stats.old name loaded) }
+    requires types { batch.old.types ≡ read.joined.table.types }
+    ensures ok { OnOk result (loads.Whole batch.new stats.new ≡ with_read batch.old stats.old name read) }
 {
-    match both_stats(*stats, loaded.stats) {
+    match stats_with(*stats, &read) {
         Ok(sum) => {
-            let LoadedData { table, book, .. } = loaded;
+            let DataRead { joined, .. } = read;
+            let Joined { table, book, .. } = joined;
             *stats = sum;
             batch.join(name, table, book)
         }
         Err(NoMemory) => {
             // As one value, as in `Ending::of`.
-            drop(loaded);
+            drop(read);
             Err(NoMemory)
         }
     }
 }
 
 impl Load {
-    /// Takes one more file in. A header that is another one stays; a first error does, unless that file begins with another
-    /// header. After want of memory the load is of no use.
-    pub fn add(&mut self, name: Bytes, load: FileLoad) -> Result<(), NoMemory>
+    /// Takes one more file in, which is none where it begins with another header. That stays; a first error does, unless
+    /// that file begins with another header. After want of memory the load is of no use.
+    pub fn add(&mut self, name: Bytes, load: Option<WindowRead>) -> Result<(), NoMemory>
         requires types { CanJoin self.old load }
         ensures ok { OnOk result (self.new ≡ with_load self.old name load) }
     {
         match load {
-            FileLoad::Whole(loaded) => self.join(name, loaded),
-            FileLoad::FirstError(reject) => {
+            Some(WindowRead::All(read)) => self.join(name, read),
+            Some(WindowRead::Stopped(reject)) => {
                 self.stop(reject);
                 Ok(())
             }
-            FileLoad::OtherHeader => {
+            None => {
                 self.differ(name);
                 Ok(())
             }
@@ -89,19 +92,19 @@ impl Load {
     }
 
     /// Takes all of a file in.
-    fn join(&mut self, name: Bytes, loaded: LoadedData) -> Result<(), NoMemory>
-        requires types { CanJoin self.old (file_loads.Whole loaded) }
-        ensures ok { OnOk result (self.new ≡ with_load self.old name (file_loads.Whole loaded)) }
+    fn join(&mut self, name: Bytes, read: DataRead) -> Result<(), NoMemory>
+        requires types { CanJoin self.old (Some (reads.All read)) }
+        ensures ok { OnOk result (self.new ≡ with_load self.old name (Some (reads.All read))) }
     {
         match self {
-            Load::Whole(batch, stats) => join_file(batch, stats, name, loaded),
+            Load::Whole(batch, stats) => join_file(batch, stats, name, read),
             Load::FirstError(_) | Load::OtherHeader(_) => Ok(()),
         }
     }
 
     /// Takes a file in that has a first error.
     fn stop(&mut self, reject: Reject)
-        ensures { self.new ≡ with_load self.old [] (file_loads.FirstError reject) }
+        ensures { self.new ≡ with_load self.old [] (Some (reads.Stopped reject)) }
     {
         if let Load::Whole(..) = self {
             drop(mem::replace(self, Load::FirstError(reject)));
@@ -110,7 +113,7 @@ impl Load {
 
     /// Takes a file in that begins with another header.
     fn differ(&mut self, name: Bytes)
-        ensures { self.new ≡ with_load self.old name file_loads.OtherHeader }
+        ensures { self.new ≡ with_load self.old name None }
     {
         match self {
             Load::OtherHeader(_) => {}
@@ -148,13 +151,13 @@ impl LoadedFiles {
         alloc: Global,
         sniffed: Sniffed,
         name: Bytes,
-        load: FileLoad,
+        load: WindowRead,
     ) -> Result<LoadedFiles, NoMemory>
-        requires types { CanJoin (no_files sniffed.types) load }
-        ensures ok { IfOk result (λ files. files ≡ record { sniffed = sniffed; load = with_load (no_files sniffed.types) name load }) }
+        requires types { CanJoin (no_files sniffed.types) (Some load) }
+        ensures ok { IfOk result (λ files. files ≡ record { sniffed = sniffed; load = with_load (no_files sniffed.types) name (Some load) }) }
     {
         match LoadedFiles::none(alloc, sniffed) {
-            Ok(files) => files.with(name, load),
+            Ok(files) => files.with(name, Some(load)),
             Err(NoMemory) => {
                 drop(load);
                 Err(NoMemory)
@@ -163,7 +166,7 @@ impl LoadedFiles {
     }
 
     /// These files and one more.
-    fn with(self, name: Bytes, load: FileLoad) -> Result<LoadedFiles, NoMemory>
+    fn with(self, name: Bytes, load: Option<WindowRead>) -> Result<LoadedFiles, NoMemory>
         requires types { CanJoin self.load load }
         ensures ok { IfOk result (λ files. files ≡ record { sniffed = self.sniffed; load = with_load self.load name load }) }
     {

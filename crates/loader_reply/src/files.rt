@@ -14,7 +14,6 @@ ghost use Rattle.loader_reply.specs.Reading.{schema_of};
 ghost use Rattle.loader_reply.specs.Reply.{IsShort, sniffed_outcome, told};
 
 use crate::loader::Loader;
-use crate::loading::FileLoad;
 use csv_sniffer::{
     Finding, SAMPLE_LIMIT, Sniffed, explain, has_same_header, place_under, sample_start,
     sniff_input,
@@ -24,7 +23,7 @@ use report_text::Outcome;
 use std::alloc::Global;
 use std::sync::Wait;
 use std::thread::Threads;
-use window_load::{InputWindow, LoadStop};
+use window_load::{InputWindow, LoadStop, WindowRead};
 
 /// The first reading: a sample, a byte order mark, and some skipped lines.
 pub const FIRST: usize = SAMPLE_LIMIT + 65_536;
@@ -161,14 +160,15 @@ impl<'a, R, G> Loader<'a, R, G> {
 }
 
 impl<'a, R: Threads + Wait + Sync, G: Gate> Loader<'a, R, G> {
-    /// Loads a later file of a number: its data under what was found in the first one, unless it begins with another header.
+    /// Loads a later file of a number: its data under what was found in the first one; none where it has to begin with the
+    /// header of that one, and doesn't.
     pub fn load_later<S: Source + Send>(
         &self,
         sniffed: &Sniffed,
         file_id: u64,
         name: &str,
         source: &mut S,
-    ) -> Result<FileLoad, LoadStop>
+    ) -> Result<Option<WindowRead>, LoadStop>
         requires accepted { IsAccepted self.now.options.now }
         requires columns { HasColumns (schema_of self.now.options.now sniffed.now) }
         requires few { length sniffed.now.names < 2 ^ 63 }
@@ -183,10 +183,10 @@ impl<'a, R: Threads + Wait + Sync, G: Gate> Loader<'a, R, G> {
         let mut head = self.open_head(name, source)?;
         let begins = self.later_start(sniffed, head.bytes())?;
         match begins {
-            Some(start) => self.load_data(sniffed, file_id, head, start, source),
+            Some(start) => Ok(Some(self.load_data(sniffed, file_id, head, start, source)?)),
             None => {
                 head.read_past(source)?;
-                Ok(FileLoad::OtherHeader)
+                Ok(None)
             }
         }
     }

@@ -10,44 +10,25 @@ ghost use Rattle.reject_book.specs.declared.book.Keep.TheVariants.{First as firs
 ghost use Rattle.window_load.specs.DataRead.{ComesWhole, ComesOver, IsWindowRead};
 ghost use Rattle.window_load.specs.declared.stop.LoadStop.TheVariants as stops;
 ghost use Rattle.csv_sniffer.specs.Input.{place_under};
-ghost use Rattle.loader_reply.specs.Loading.{stops_at_error, IsFileLoad, IsHead, IsRaised, IsRaisedRead, KeepsAs};
+ghost use Rattle.loader_reply.specs.Loading.{raised_data, raised_read, stops_at_error, IsFileLoad, IsHead, KeepsAs};
 ghost use Rattle.loader_reply.specs.Reading.{schema_of};
 
 use crate::context::context_of;
 use crate::loader::Loader;
 use byte_classes::count_line_ends;
-use column_store::Table;
 use csv_sniffer::Sniffed;
 use csv_source::{Gate, NoMemory, Source};
 use load_options::Options;
 use pipe_load::pipe_load;
 use range_scan::Context;
 use reject_book::{Book, Keep, Reject};
-use report_text::Stats;
 use std::alloc::Global;
+use std::mem;
 use std::sync::Wait;
 use std::thread::Threads;
 use window_load::{
     DataLoader, DataRead, InputWindow, LoadStop, WindowRead, append_book, sum_of, window_load,
 };
-
-/// The good rows of the data, their rejects, and what their reading took.
-#[derive(Drop)]
-pub struct LoadedData {
-    pub table: Table,
-    pub book: Book,
-    pub stats: Stats,
-}
-
-/// What the data of a file come to.
-#[derive(Drop)]
-pub enum FileLoad {
-    Whole(LoadedData),
-    /// The load ends with its first error.
-    FirstError(Reject),
-    /// The file doesn't begin with the header of the first one, as it has to.
-    OtherHeader,
-}
 
 /// Whether the first error ends the load.
 fn stops_at_error(options: &Options) -> bool
@@ -65,47 +46,36 @@ fn raised(reject: Reject, lines: u64) -> Result<Reject, NoMemory>
     Ok(reject)
 }
 
-/// What was read of the data, behind the line ends before them.
-fn loaded_data(
-    alloc: Global,
-    keep: Keep,
-    read: DataRead,
-    lines: u64,
-) -> Result<LoadedData, NoMemory>
-    requires same { read.book.keep ≡ keep }
-    ensures ok { IfOk result (λ loaded. IsRaised keep lines read loaded) }
+/// What was read of the data, whose rejects stand behind some lines.
+fn raised_data(alloc: Global, keep: Keep, read: DataRead, lines: u64) -> Result<DataRead, NoMemory>
+    requires same { read.joined.book.keep ≡ keep }
+    ensures ok { IfOk result (λ raised. raised ≡ raised_data keep lines read) }
 {
-    let DataRead {
-        table,
-        book,
-        length,
-        ranges,
-        rescans,
-        rescanned,
-        ..
-    } = read;
-    let mut raised = Book::new(alloc, keep);
-    append_book(&mut raised, book, lines)?;
-    let scanned = sum_of(length, rescanned)?;
-    Ok(LoadedData {
-        table,
-        book: raised,
-        stats: Stats {
-            ranges,
-            rescans,
-            scanned,
-        },
-    })
+    let mut read = read;
+    let book = mem::replace(&mut read.joined.book, Book::new(alloc, keep));
+    match append_book(&mut read.joined.book, book, lines) {
+        Ok(()) => Ok(read),
+        Err(NoMemory) => {
+            // As one value, as in `Ending::of`.
+            drop(read);
+            Err(NoMemory)
+        }
+    }
 }
 
-/// What the data of a file come to by what was read of them, behind the line ends before them.
-fn file_load(alloc: Global, keep: Keep, read: WindowRead, lines: u64) -> Result<FileLoad, NoMemory>
+/// What the data of a file come to by what was read of them, with lines counted from the file's start.
+fn raised_read(
+    alloc: Global,
+    keep: Keep,
+    read: WindowRead,
+    lines: u64,
+) -> Result<WindowRead, NoMemory>
     requires same { KeepsAs keep read }
-    ensures ok { IfOk result (IsRaisedRead keep lines read) }
+    ensures ok { IfOk result (λ raised. raised ≡ raised_read keep lines read) }
 {
     match read {
-        WindowRead::All(read) => Ok(FileLoad::Whole(loaded_data(alloc, keep, read, lines)?)),
-        WindowRead::Stopped(reject) => Ok(FileLoad::FirstError(raised(reject, lines)?)),
+        WindowRead::All(read) => Ok(WindowRead::All(raised_data(alloc, keep, read, lines)?)),
+        WindowRead::Stopped(reject) => Ok(WindowRead::Stopped(raised(reject, lines)?)),
     }
 }
 
@@ -158,15 +128,15 @@ impl<'a, R: Threads + Wait + Sync, G: Gate> Loader<'a, R, G> {
         head: InputWindow,
         start: usize,
         source: &mut S,
-    ) -> Result<FileLoad, LoadStop>
+    ) -> Result<WindowRead, LoadStop>
         requires accepted { IsAccepted self.now.options.now }
         requires head { IsHead self.now.options.now.skip self.now.options.now.max_input head }
         requires columns { HasColumns (schema_of self.now.options.now sniffed.now) }
         requires place { start ≡ place_under self.now.options.now sniffed.now head.kept }
         requires within { start ≤ length head.kept }
         requires at_end { head.ended ≡ true → IsAtEnd (S.left source.old) }
-        ensures ok { IfOk result (λ load. ComesWhole (S.left source.old) (S.left source.new) head
-            (λ input. IsFileLoad self.now.options.now sniffed.now file_id input load)) }
+        ensures ok { IfOk result (λ read. ComesWhole (S.left source.old) (S.left source.new) head
+            (λ input. IsFileLoad self.now.options.now sniffed.now file_id input read)) }
         ensures too_large { result ≡ Err stops.TooLarge → ComesOver (S.left source.old) (S.left source.new) head }
         ensures failed { result ≡ Err stops.Failed → Rose (S.faults source.old) (S.faults source.new) }
         ensures held { S.held source.new ≡ S.held source.old }
@@ -180,7 +150,7 @@ impl<'a, R: Threads + Wait + Sync, G: Gate> Loader<'a, R, G> {
                 // As one value, as in `Ending::of`.
                 drop(context);
                 let read = came?;
-                Ok(file_load(self.alloc, keep, read, lines)?)
+                Ok(raised_read(self.alloc, keep, read, lines)?)
             }
             Err(NoMemory) => {
                 drop(head);

@@ -6,7 +6,6 @@ pub mod CuttingLaws
 pub mod FeedingLaws
 pub mod ScanningLaws
 pub mod WindowParts
-pub mod JoiningLaws
 pub mod WindowRanges
 pub mod SlotsLaws
 pub mod AnswerLaws

@@ -11,17 +11,17 @@ use Rattle.load_options.specs.declared.limits.TheConstants.{MAX_LINE_SIZE, RANGE
 use Rattle.quote_automaton.specs.declared.state.State.TheVariants.{RowStart}
 use Rattle.range_guess.specs.Cut.{range_count}
 use Rattle.range_scan.specs.declared.context.Context.{Context}
+use Rattle.range_scan.specs.declared.joined.Joined.{Joined}
+use Rattle.range_scan.specs.Ranges.{IsJoinedTo}
 use Rattle.range_scan.specs.Joined.{IsJoinedPart, IsBegun}
 use Rattle.range_scan.specs.Part.{Part}
 use Rattle.range_guess.proofs.CutLaws.{count_covers, count_less, count_at_most}
 use Rattle.value_types.specs.Datum.{Datum}
 use Rattle.reject_book.specs.declared.reject.Reject.{Reject}
-use Rattle.pipe_load.specs.declared.joining.Counted.{Counted}
 use Rattle.pipe_load.specs.declared.layout.Layout.{Layout}
 use Rattle.pipe_load.specs.declared.window.Window.{Window}
-use Rattle.pipe_load.specs.Joining.{AddsRanges, IsJoinedTo, ranges_before}
-use Rattle.pipe_load.specs.Loading.{data_read}
-use Rattle.window_load.specs.DataRead.{IsDataRead}
+use Rattle.pipe_load.specs.Joining.{AddsRanges, ranges_before}
+use Rattle.window_load.specs.DataRead.{IsDataRead, data_read}
 use Rattle.range_scan.proofs.RangeSteps.{begun, all_ranges}
 use Rattle.pipe_load.specs.Layout.{IsLayout, stride, want, window_start, window_of, windows_of, stretch_of, stretch_len, layout_of, turned}
 use Rattle.pipe_load.specs.PassViews.{IsOneOf}
@@ -81,7 +81,7 @@ module _ (context : Context) (l : Layout) (layout : IsLayout l) (text : List ℕ
       omega (arith, count, below, next)
 
   -- one window more
-  pub next_window : (k : ℕ) (w : Window) (old new : Counted) → w ≡ window_of l text k → (l.before + k) * stride l < length text → l.reach ≡ context.schema.max_line_size + 1 →
+  pub next_window : (k : ℕ) (w : Window) (old new : Joined) → w ≡ window_of l text k → (l.before + k) * stride l < length text → l.reach ≡ context.schema.max_line_size + 1 →
       AddsRanges context l w (stretch_len l w) old new → IsJoinedTo context text l.data_start z (ranges_before l text k) old → IsJoinedTo context text l.data_start z (ranges_before l text (k + 1)) new
   next_window k w old new is inside reach adds h =
       let far : 0 < l.reach = omega (arith, reach) in
@@ -91,22 +91,18 @@ module _ (context : Context) (l : Layout) (layout : IsLayout l) (text : List ℕ
       subst (λ j. IsJoinedTo context text l.data_start z j new) there (adds.joins text k is inside reach before)
 
   -- no window yet
-  pub first_window : (new : Counted) → l.before ≡ 0 → IsBegun context RowStart new.joined → new.ranges ≡ 0 → new.length ≡ 0 → IsJoinedTo context text l.data_start z (ranges_before l text 0) new
-  first_window new first h ranges bytes =
+  pub first_window : (new : Joined) → l.before ≡ 0 → IsBegun context RowStart new → IsJoinedTo context text l.data_start z (ranges_before l text 0) new
+  first_window new first h =
       let place : l.before + 0 ≡ 0 = omega (arith, first) in
       let none : ranges_before l text 0 ≡ 0 = (let e : (l.before + 0) * r ≡ 0 * r = ap (λ m. m * r) place in let o : 0 * r ≡ 0 = omega arith in omega (arith, e, o)) in
-      subst (λ j. IsJoinedTo context text l.data_start z j new) (sym none) record {
-        joined = begun context text l.data_start z new.joined h;
-        ranges = ranges;
-        bytes = bytes ∙ (let empty : 0 ≡ min (0 * z) (length text) = omega arith in empty);
-      }
+      subst (λ j. IsJoinedTo context text l.data_start z j new) (sym none) (begun context text l.data_start z new h)
 
   -- a round is followed by the next one
-  pub next_round : (n : ℕ) (new : Counted) → IsJoinedTo context text l.data_start z (ranges_before l text n) new → IsJoinedTo context text l.data_start z (ranges_before (turned l n) text 0) new
+  pub next_round : (n : ℕ) (new : Joined) → IsJoinedTo context text l.data_start z (ranges_before l text n) new → IsJoinedTo context text l.data_start z (ranges_before (turned l n) text 0) new
   next_round n new h = let same : l.before + n ≡ l.before + n + 0 = omega arith in subst (λ m. IsJoinedTo context text l.data_start z (min (m * r) all) new) same h
 
   -- all windows
-  pub last_window : (count : ℕ) (new : Counted) → length text ≤ (l.before + count) * stride l → IsJoinedTo context text l.data_start z (ranges_before l text count) new → IsJoinedTo context text l.data_start z all new
+  pub last_window : (count : ℕ) (new : Joined) → length text ≤ (l.before + count) * stride l → IsJoinedTo context text l.data_start z (ranges_before l text count) new → IsJoinedTo context text l.data_start z all new
   last_window count new covered h =
       let at_most : all ≤ (l.before + count) * r = count_within_all in
       subst (λ j. IsJoinedTo context text l.data_start z j new) (let e : ranges_before l text count ≡ all = omega (arith, at_most) in e) h
@@ -119,22 +115,14 @@ module _ (context : Context) (l : Layout) (layout : IsLayout l) (text : List ℕ
           let e : all ≡ min (p * r) all = ap (λ n. range_count n z) text_is ∙ count_at_most (length text) z (p * r) layout.some in omega (arith, e)
 
   -- all ranges are the data
-  pub all_read : (counted : Counted) → IsJoinedTo context text l.data_start z all counted → IsDataRead context text l.data_start z (data_read counted)
-  all_read counted h =
-      let covers : length text ≤ all * z = count_covers (length text) z layout.some in
-      let front : min (all * z) (length text) ≡ length text = omega (arith, covers) in
-      let whole = subst (λ (p : Part (List Datum) Reject). IsJoinedPart context p counted.joined) (all_ranges context text l.data_start z layout.some) h.joined.part in
-      record {
-        end = whole.end;
-        types = whole.types;
-        rows = whole.rows;
-        book = whole.book;
-        line_ends = whole.line_ends;
-        bytes = h.bytes ∙ front;
-        ranges = h.ranges;
-        rescanned_ranges = h.joined.rescans;
-        scanned = ap (λ n. length text + n) h.joined.rescanned;
-      }
+  pub all_read : (joined : Joined) (count : ℕ) → count ≡ length text → IsJoinedTo context text l.data_start z all joined → IsDataRead context text l.data_start z (data_read joined count z)
+  all_read joined count counted h = record {
+    part = subst (λ (p : Part (List Datum) Reject). IsJoinedPart context p joined) (all_ranges context text l.data_start z layout.some) h.part;
+    bytes = counted;
+    ranges = ap (λ n. range_count n z) counted;
+    rescanned_ranges = h.rescans;
+    scanned = ap (λ n. length text + n) h.rescanned;
+  }
 
 -- windows that wait have the numbers behind those that were put, and are among those that were made
 pub number_behind : (put waiting : List Window) → AreNumbered (put ++ waiting) → (k : ℕ) (d : Window) → k < length waiting → (get_or waiting k d).number ≡ length put + k

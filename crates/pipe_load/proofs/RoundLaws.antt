@@ -6,15 +6,17 @@ use Rattle.std.proofs.Math.Nat.{mul-le-mul_left}
 use Rattle.std.proofs.lemmas.List.{append-nil}
 use Rattle.quote_automaton.specs.declared.state.State.TheVariants.{RowStart}
 use Rattle.range_scan.specs.declared.context.Context.{Context}
+use Rattle.range_scan.specs.declared.joined.Joined.{Joined}
 use Rattle.range_scan.specs.Joined.{IsBegun}
+use Rattle.range_scan.specs.Ranges.{IsJoinedTo}
+use Rattle.window_load.specs.DataRead.{data_read}
 use Rattle.window_load.specs.Window.{WindowView, reach, IsFilled}
-use Rattle.pipe_load.specs.declared.joining.Counted.{Counted}
 use Rattle.pipe_load.specs.declared.layout.Layout.{Layout}
 use Rattle.pipe_load.specs.declared.reader.Reader.{Reader}
 use Rattle.pipe_load.specs.declared.window.Window.{Window}
-use Rattle.pipe_load.specs.Joining.{AddsRanges, AddsWindows, IsJoinedTo, ranges_before}
+use Rattle.pipe_load.specs.Joining.{AddsRanges, AddsWindows, ranges_before}
 use Rattle.pipe_load.specs.Layout.{IsLayout, stride, lead, want, stretch_len, turned}
-use Rattle.pipe_load.specs.Loading.{AddsRound, IsAllRead, data_read}
+use Rattle.pipe_load.specs.Loading.{AddsRound, IsAllRead}
 use Rattle.pipe_load.specs.PassViews.{IsOneOf}
 use Rattle.pipe_load.specs.Reading.{Fills, HasCut, IsStarted}
 use Rattle.pipe_load.proofs.CuttingLaws.{some_stride, first_cut, stays, turn_on, all_ended, all_covered}
@@ -22,14 +24,14 @@ use Rattle.pipe_load.proofs.LoadLaws.{one_is, begins_before, next_window, first_
 
 -- ---- the windows of a round
 
-pub adds_none : (context : Context) (l : Layout) (made : List Window) (count : ℕ) (old : Counted) → old.joined.table.types ≡ context.schema.types → old.joined.book.keep ≡ context.keep → AddsWindows context l made count 0 old old
+pub adds_none : (context : Context) (l : Layout) (made : List Window) (count : ℕ) (old : Joined) → old.table.types ≡ context.schema.types → old.book.keep ≡ context.keep → AddsWindows context l made count 0 old old
 adds_none context l made count old types keep = record {
   types = types;
   keep = keep;
   joins = λ text is begins h. h;
 }
 
-pub adds_window : (context : Context) (l : Layout) (made : List Window) (count n : ℕ) (w : Window) (old mid new : Counted) → IsLayout l → l.reach ≡ context.schema.max_line_size + 1 → IsOneOf made w → w.number ≡ n → n < count →
+pub adds_window : (context : Context) (l : Layout) (made : List Window) (count n : ℕ) (w : Window) (old mid new : Joined) → IsLayout l → l.reach ≡ context.schema.max_line_size + 1 → IsOneOf made w → w.number ≡ n → n < count →
     AddsWindows context l made count n old mid → AddsRanges context l w (stretch_len l w) mid new → AddsWindows context l made count (n + 1) old new
 adds_window context l made count n w old mid new layout reach one number lt h adds = record {
   types = adds.types;
@@ -49,33 +51,33 @@ started_cut l layout before after head start new first started fills filled at_e
     (subst (λ (x : Layout). IsFilled (want x 0) new.window) started.layout (subst (λ n. IsFilled (want start.layout n) new.window) started.number filled)) at_end
 
 -- whatever the data go on with, the windows before a round's window n are joined
-abbrev pub JoinedOn : Context → Layout → List ℕ → ℕ → WindowView → Counted → Type 0
+abbrev pub JoinedOn : Context → Layout → List ℕ → ℕ → WindowView → Joined → Type 0
 JoinedOn context l text n window counted = (more : List ℕ) → (window.ended ≡ true → more ≡ []) → IsJoinedTo context (text ++ more) l.data_start l.range_size (ranges_before l (text ++ more) n) counted
 
 -- the data are cut and joined up to a window of a round
-pub record IsUpTo (context : Context) (l : Layout) (head : WindowView) (before after : Option (List ℕ)) (n : ℕ) (window : WindowView) (counted : Counted) : Type 0 where
+pub record IsUpTo (context : Context) (l : Layout) (head : WindowView) (before after : Option (List ℕ)) (n : ℕ) (window : WindowView) (counted : Joined) : Type 0 where
   pub made : List Window
   pub read : List ℕ
   pub cut : HasCut l head before after made read n window
   pub joined : JoinedOn context l (head.kept ++ read) n window counted
 
 -- up to the start of a round: no window of it is cut
-pub record IsUpToRound (context : Context) (l : Layout) (head : WindowView) (before after : Option (List ℕ)) (window : WindowView) (counted : Counted) : Type 0 where
+pub record IsUpToRound (context : Context) (l : Layout) (head : WindowView) (before after : Option (List ℕ)) (window : WindowView) (counted : Joined) : Type 0 where
   pub read : List ℕ
   pub cut : HasCut l head before after [] read 0 window
   pub joined : JoinedOn context l (head.kept ++ read) 0 window counted
 
 module _ (context : Context) (l : Layout) (layout : IsLayout l) (head : WindowView) (before : Option (List ℕ)) where
-  pub first_round : (after : Option (List ℕ)) (read : List ℕ) (window : WindowView) (counted : Counted) → l.before ≡ 0 → HasCut l head before after [] read 0 window → IsBegun context RowStart counted.joined → counted.ranges ≡ 0 → counted.length ≡ 0 →
+  pub first_round : (after : Option (List ℕ)) (read : List ℕ) (window : WindowView) (counted : Joined) → l.before ≡ 0 → HasCut l head before after [] read 0 window → IsBegun context RowStart counted →
       IsUpToRound context l head before after window counted
-  first_round after read window counted first cut begun ranges bytes = record {
+  first_round after read window counted first cut begun = record {
     read = read;
     cut = cut;
-    joined = λ more may. first_window context l layout ((head.kept ++ read) ++ more) counted first begun ranges bytes;
+    joined = λ more may. first_window context l layout ((head.kept ++ read) ++ more) counted first begun;
   }
 
   -- a round is joined
-  pub round_on : (mid after : Option (List ℕ)) (n : ℕ) (held left : WindowView) (more : List ℕ) (old new : Counted) → IsUpToRound context l head before mid held old → AddsRound context l mid after n held left more old new → IsUpTo context l head before after n left new
+  pub round_on : (mid after : Option (List ℕ)) (n : ℕ) (held left : WindowView) (more : List ℕ) (old new : Joined) → IsUpToRound context l head before mid held old → AddsRound context l mid after n held left more old new → IsUpTo context l head before after n left new
   round_on mid after n held left more old new h round =
       let cut : HasCut l head before after round.made (h.read ++ more) n left = round.cuts.cut head before h.read h.cut in record {
         made = round.made;
@@ -94,7 +96,7 @@ module _ (context : Context) (l : Layout) (layout : IsLayout l) (head : WindowVi
       }
 
   -- before the next one
-  pub turned_on : (after : Option (List ℕ)) (n : ℕ) (window : WindowView) (counted : Counted) → IsUpTo context l head before after n window counted → IsUpToRound context (turned l n) head before after window counted
+  pub turned_on : (after : Option (List ℕ)) (n : ℕ) (window : WindowView) (counted : Joined) → IsUpTo context l head before after n window counted → IsUpToRound context (turned l n) head before after window counted
   turned_on after n window counted h = record {
     read = h.read;
     cut = turn_on l layout head before after h.made h.read n window h.cut;
@@ -102,7 +104,7 @@ module _ (context : Context) (l : Layout) (layout : IsLayout l) (head : WindowVi
   }
 
   -- there are no more windows than bytes
-  pub few_before : (after : Option (List ℕ)) (n : ℕ) (window : WindowView) (counted : Counted) → IsUpTo context l head before after n window counted → head.most ≤ 2 ^ 32 → l.before + n ≤ 2 ^ 32
+  pub few_before : (after : Option (List ℕ)) (n : ℕ) (window : WindowView) (counted : Joined) → IsUpTo context l head before after n window counted → head.most ≤ 2 ^ 32 → l.before + n ≤ 2 ^ 32
   few_before after n window counted h most = by_place (l.before + n) refl
     where
       few : length (head.kept ++ h.read) ≤ 2 ^ 32
@@ -121,8 +123,9 @@ module _ (context : Context) (l : Layout) (layout : IsLayout l) (head : WindowVi
           omega (arith, begun, product, least, few)
 
   -- behind the last one
-  pub all_done : (after : Option (List ℕ)) (n : ℕ) (window : WindowView) (counted : Counted) → IsUpTo context l head before after n window counted → length window.kept ≤ lead l n → (read : List ℕ) × IsAllRead context l.data_start l.range_size head before after read (data_read counted)
-  all_done after n window counted h few =
+  pub all_done : (after : Option (List ℕ)) (n : ℕ) (window : WindowView) (counted : Joined) → IsUpTo context l head before after n window counted → length window.kept ≤ lead l n →
+      (count : ℕ) → count ≡ reach window - head.base → (read : List ℕ) × IsAllRead context l.data_start l.range_size head before after read (data_read counted count l.range_size)
+  all_done after n window counted h few count total =
       let text : List ℕ = head.kept ++ h.read in
       let joined : IsJoinedTo context text l.data_start l.range_size (ranges_before l text n) counted =
       subst (λ (t : List ℕ). IsJoinedTo context t l.data_start l.range_size (ranges_before l t n) counted) (append-nil text) (h.joined [] (λ _. refl)) in
@@ -133,6 +136,6 @@ module _ (context : Context) (l : Layout) (layout : IsLayout l) (head : WindowVi
           at_end = h.cut.at_end (all_ended l layout head before after h.made h.read n window h.cut few);
           none = h.cut.none;
           within = omega (arith, within, h.cut.reaches, h.cut.most);
-          is = all_read context l layout text counted (last_window context l layout text n counted (all_covered l layout head before after h.made h.read n window h.cut few) joined);
+          is = all_read context l layout text counted count (omega (arith, total, h.cut.reaches, length-append head.kept h.read)) (last_window context l layout text n counted (all_covered l layout head before after h.made h.read n window h.cut few) joined);
         },
       )

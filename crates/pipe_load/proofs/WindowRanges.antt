@@ -12,24 +12,28 @@ use Rattle.quote_automaton.specs.declared.state.State.{State}
 use Rattle.range_guess.specs.Guess.{guess}
 use Rattle.byte_classes.specs.Places.{byte_before}
 use Rattle.range_guess.specs.Rescans.{range_bytes}
-use Rattle.range_guess.specs.Span.{guess_of}
+use Rattle.range_guess.specs.Span.{guess_of, opening_in}
 use Rattle.range_guess.specs.Stretch.{span_of}
 use Rattle.range_guess.proofs.CutLaws.{count_before}
 use Rattle.range_scan.specs.declared.context.Context.{Context}
+use Rattle.range_scan.specs.declared.joined.Joined.{Joined}
 use Rattle.range_guess.specs.declared.span.Span.{Span}
 use Rattle.range_guess.specs.declared.stretch.Stretch.{Stretch}
 use Rattle.range_scan.specs.Part.{part_of}
-use Rattle.range_scan.specs.Ranges.{ranges_end}
+use Rattle.range_scan.specs.Ranges.{AddsSpan, IsJoinedTo, ranges_end}
 use Rattle.range_scan.specs.Scanned.{Scanned, judge_in, span_part}
 use Rattle.range_scan.proofs.JudgeLaws.{first_bytes_decide}
-use Rattle.pipe_load.specs.declared.joining.Counted.{Counted}
+use Rattle.range_scan.proofs.RangeSteps.{next_range}
 use Rattle.pipe_load.specs.declared.layout.Layout.{Layout}
 use Rattle.pipe_load.specs.declared.window.Window.{Window}
-use Rattle.pipe_load.specs.Joining.{AddsRange, AddsRanges, IsJoinedTo}
+use Rattle.pipe_load.specs.Joining.{AddsRanges}
 use Rattle.pipe_load.specs.Layout.{IsLayout, stride, want, window_start, window_of, base_of, stretch_of, stretch_len}
 use Rattle.pipe_load.proofs.CuttingLaws.{some_stride}
-use Rattle.pipe_load.proofs.JoiningLaws.{next_range}
 use Rattle.pipe_load.proofs.WindowParts.{begins, ends, ordered, within, reaches, in_text}
+
+-- a range of a window is joined behind those before it
+abbrev pub AddsNext : Context → List ℕ → ℕ → Span → Joined → Joined → Type 0
+AddsNext context bytes base span old new = AddsSpan context bytes base span (opening_in context.dialect bytes span old.end) old new
 
 pub lead_at : (k s : ℕ) → 0 < s → (k * s - 1) + min k 1 ≡ k * s
 lead_at zero s some = omega arith
@@ -195,26 +199,26 @@ module _ (context : Context) (l : Layout) (layout : IsLayout l) (text : List ℕ
   pub guess_is : guess_of context.dialect w.bytes span ≡ guess context.dialect (range_bytes text z j) (byte_before text (j * z))
   guess_is = λ i. guess context.dialect (bytes_are i) (byte_is i)
 
-  pub next_of_window : (old new : Counted) → IsJoinedTo context text l.data_start z j old → AddsRange context w.bytes (base_of l w) span old new → IsJoinedTo context text l.data_start z (j + 1) new
-  next_of_window old new h adds = next_range context text l.data_start z j in_data w.bytes (base_of l w) span part_is width_is refl guess_is old new h adds
+  pub next_of_window : (old new : Joined) → IsJoinedTo context text l.data_start z j old → AddsNext context w.bytes (base_of l w) span old new → IsJoinedTo context text l.data_start z (j + 1) new
+  next_of_window old new h adds = next_range context text l.data_start z j in_data old h w.bytes (base_of l w) span (part_is old.end) width_is refl guess_is new adds
 
 -- one range more of a window
-pub adds_more : (context : Context) (l : Layout) (w : Window) (n : ℕ) (old mid new : Counted) → IsLayout l → n < stretch_len l w →
-    AddsRanges context l w n old mid → AddsRange context w.bytes (base_of l w) (span_of (stretch_of l w) n) mid new → AddsRanges context l w (n + 1) old new
+pub adds_more : (context : Context) (l : Layout) (w : Window) (n : ℕ) (old mid new : Joined) → IsLayout l → n < stretch_len l w →
+    AddsRanges context l w n old mid → AddsNext context w.bytes (base_of l w) (span_of (stretch_of l w) n) mid new → AddsRanges context l w (n + 1) old new
 adds_more context l w n old mid new layout below h adds = record {
-  types = adds.joins.adds.types ∙ h.types;
-  keep = ap (λ b. b.keep) adds.joins.adds.book ∙ h.keep;
+  types = adds.adds.types ∙ h.types;
+  keep = ap (λ b. b.keep) adds.adds.book ∙ h.keep;
   joins = λ text k is begins reach before.
       let same : (l.before + k) * l.ranges + n + 1 ≡ (l.before + k) * l.ranges + (n + 1) = omega arith in
       let under : n < stretch_len l (window_of l text k) = subst (λ (x : Window). n < stretch_len l x) is below in
-      let added : AddsRange context (window_of l text k).bytes (base_of l (window_of l text k)) (span_of (stretch_of l (window_of l text k)) n) mid new =
-      subst (λ (x : Window). AddsRange context x.bytes (base_of l x) (span_of (stretch_of l x) n) mid new) is adds in
+      let added : AddsNext context (window_of l text k).bytes (base_of l (window_of l text k)) (span_of (stretch_of l (window_of l text k)) n) mid new =
+      subst (λ (x : Window). AddsNext context x.bytes (base_of l x) (span_of (stretch_of l x) n) mid new) is adds in
       subst (λ j. IsJoinedTo context text l.data_start l.range_size j new) same
       (next_of_window context l layout text k n begins reach under mid new (h.joins text k is begins reach before) added);
 }
 
 -- no range yet
-pub adds_none : (context : Context) (l : Layout) (w : Window) (old : Counted) → old.joined.table.types ≡ context.schema.types → old.joined.book.keep ≡ context.keep → AddsRanges context l w 0 old old
+pub adds_none : (context : Context) (l : Layout) (w : Window) (old : Joined) → old.table.types ≡ context.schema.types → old.book.keep ≡ context.keep → AddsRanges context l w 0 old old
 adds_none context l w old types keep = record {
   types = types;
   keep = keep;

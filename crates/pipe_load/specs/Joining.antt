@@ -1,38 +1,20 @@
 -- What is joined so far: the ranges of the data up to a place, each in its true state (Ge et al. 2019).
-use Rattle.std.specs.Prelude.{◌≡◌, ℕ, ◌+◌, ◌-◌, ◌*◌, ◌<◌, min, map, List, length}
+use Rattle.std.specs.Prelude.{◌≡◌, ℕ, ◌+◌, ◌*◌, ◌<◌, min, map, List, length}
 use Rattle.std.specs.List.{range_with_len}
 use Rattle.range_guess.specs.Cut.{range_count}
-use Rattle.range_guess.specs.declared.span.Span.{Span}
-use Rattle.range_guess.specs.Span.{opening_in}
 use Rattle.range_scan.specs.declared.context.Context.{Context}
-use Rattle.range_scan.specs.Ranges.{AddsSpan, IsJoinedTo as AreJoined, ranges_end}
+use Rattle.range_scan.specs.declared.joined.Joined.{Joined}
+use Rattle.range_scan.specs.Ranges.{IsJoinedTo}
 use Rattle.range_scan.specs.Scanned.{Scanned}
-use Rattle.pipe_load.specs.declared.joining.Counted.{Counted}
 use Rattle.pipe_load.specs.declared.layout.Layout.{Layout}
 use Rattle.pipe_load.specs.declared.window.Window.{Window}
 use Rattle.pipe_load.specs.Layout.{stride, window_of, windows_of}
 use Rattle.pipe_load.specs.Scanning.{guessed_part}
 
--- ---- one range
-
--- a range of a window is joined in the state in which the one before it ends, and counted
-pub record AddsRange (context : Context) (bytes : List ℕ) (base : ℕ) (span : Span) (old new : Counted) : Type 0 where
-  pub joins : AddsSpan context bytes base span (opening_in context.dialect bytes span old.joined.end) old.joined new.joined
-  pub ranges : new.ranges ≡ old.ranges + 1
-  pub more : new.length ≡ old.length + (span.to - span.from)
-
--- the first j ranges of the data are joined and counted, with their bytes
-pub record IsJoinedTo (context : Context) (text : List ℕ) (base size j : ℕ) (new : Counted) : Type 0 where
-  pub joined : AreJoined context text base size j new.joined
-  pub ranges : new.ranges ≡ j
-  pub bytes : new.length ≡ ranges_end text size j
-
--- ---- windows
-
 -- n ranges of a window are joined: of window k of a round of any data whose ranges before this window were joined, these and n more are joined
-pub record AddsRanges (context : Context) (l : Layout) (w : Window) (n : ℕ) (old new : Counted) : Type 0 where
-  pub types : new.joined.table.types ≡ context.schema.types
-  pub keep : new.joined.book.keep ≡ context.keep
+pub record AddsRanges (context : Context) (l : Layout) (w : Window) (n : ℕ) (old new : Joined) : Type 0 where
+  pub types : new.table.types ≡ context.schema.types
+  pub keep : new.book.keep ≡ context.keep
   pub joins : (text : List ℕ) (k : ℕ) → w ≡ window_of l text k → (l.before + k) * stride l < length text → l.reach ≡ context.schema.max_line_size + 1 →
       IsJoinedTo context text l.data_start l.range_size ((l.before + k) * l.ranges) old → IsJoinedTo context text l.data_start l.range_size ((l.before + k) * l.ranges + n) new
 
@@ -41,9 +23,9 @@ abbrev pub ranges_before : Layout → List ℕ → ℕ → ℕ
 ranges_before l text n = min ((l.before + n) * l.ranges) (range_count (length text) l.range_size)
 
 -- n windows of a round are joined behind those before it, whatever the data are
-pub record AddsWindows (context : Context) (l : Layout) (made : List Window) (count n : ℕ) (old new : Counted) : Type 0 where
-  pub types : new.joined.table.types ≡ context.schema.types
-  pub keep : new.joined.book.keep ≡ context.keep
+pub record AddsWindows (context : Context) (l : Layout) (made : List Window) (count n : ℕ) (old new : Joined) : Type 0 where
+  pub types : new.table.types ≡ context.schema.types
+  pub keep : new.book.keep ≡ context.keep
   pub joins : (text : List ℕ) → made ≡ windows_of l text count → ((k : ℕ) → k < count → (l.before + k) * stride l < length text) →
       IsJoinedTo context text l.data_start l.range_size (ranges_before l text 0) old → IsJoinedTo context text l.data_start l.range_size (ranges_before l text n) new
 

@@ -2,10 +2,10 @@
 use Rattle.std.specs.Prelude.{◌≡◌, ℕ, ◌+◌, ◌≤◌, true, List, [], ◌++◌, length, Option}
 use Rattle.std.specs.Io.KnownBytes.{Consumes, IsAtEnd}
 use Rattle.range_scan.specs.declared.context.Context.{Context}
+use Rattle.range_scan.specs.declared.joined.Joined.{Joined}
 use Rattle.window_load.specs.declared.data_read.DataRead.{DataRead}
 use Rattle.window_load.specs.DataRead.{IsDataRead}
 use Rattle.window_load.specs.Window.{WindowView, reach}
-use Rattle.pipe_load.specs.declared.joining.Counted.{Counted}
 use Rattle.pipe_load.specs.declared.layout.Layout.{Layout}
 use Rattle.pipe_load.specs.declared.window.Window.{Window}
 use Rattle.pipe_load.specs.Joining.{AddsWindows}
@@ -15,21 +15,8 @@ use Rattle.pipe_load.specs.Reading.{CutsOn}
 abbrev pub HasReach : Context → Layout → Type 0
 HasReach context l = l.reach ≡ context.schema.max_line_size + 1
 
--- what is joined, as it is handed out
-abbrev pub data_read : Counted → DataRead
-data_read counted = record {
-  end = counted.joined.end;
-  table = counted.joined.table;
-  book = counted.joined.book;
-  line_ends = counted.joined.line_ends;
-  length = counted.length;
-  ranges = counted.ranges;
-  rescans = counted.joined.rescans;
-  rescanned = counted.joined.rescanned;
-}
-
 -- a round is joined behind those before it: as `more` comes some windows are cut, and these are joined
-pub record AddsRound (context : Context) (l : Layout) (before after : Option (List ℕ)) (number : ℕ) (held left : WindowView) (more : List ℕ) (old new : Counted) : Type 0 where
+pub record AddsRound (context : Context) (l : Layout) (before after : Option (List ℕ)) (number : ℕ) (held left : WindowView) (more : List ℕ) (old new : Joined) : Type 0 where
   pub made : List Window
   pub cuts : CutsOn l before after made number held left more
   pub adds : AddsWindows context l made number number old new

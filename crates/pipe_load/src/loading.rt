@@ -12,12 +12,13 @@ ghost use Rattle.window_load.specs.declared.stop.LoadStop.TheVariants as stops;
 ghost use Rattle.pipe_load.specs.Layout.{IsLayout};
 ghost use Rattle.pipe_load.specs.Loading.{HasReach, IsAllRead};
 
-use crate::answer::{data_read, up_to_reject};
-use crate::joining::Counted;
+use crate::answer::up_to_reject;
 use crate::layout::{Layout, layout_of};
 use crate::reader::Reader;
 use crate::round::round_of;
 use csv_source::{Gate, Source};
+use quote_automaton::State;
+use range_scan::Joined;
 use std::sync::Wait;
 use std::thread::Threads;
 use window_load::{DataLoader, DataRead, InputWindow, LoadStop, WindowRead};
@@ -42,13 +43,15 @@ fn load_rounds<R: Threads + Wait + Sync, S: Source + Send, G: Gate>(
         window last (stop_in result) }
     ensures ok { IfOk result (λ read. (came : List ℕ) × IsAllRead loader.now.context.now layout.data_start layout.range_size window (S.left source.old) (S.left source.new) came read) }
 {
+    let start = window.base();
     let mut reader = Reader::new(loader.alloc, window, layout);
     reader.fill(source)?;
-    let mut counted = Counted::new(loader.alloc, loader.context)?;
+    let mut joined = Joined::new(loader.alloc, loader.context, State::RowStart)?;
     loop {
-        round_of(loader, &reader).load_round(&mut reader, &mut counted, source)?;
+        round_of(loader, &reader).load_round(&mut reader, &mut joined, source)?;
         if reader.is_done() {
-            return Ok(data_read(counted));
+            let length = reader.window.reach() - start;
+            return Ok(DataRead::of(joined, length, layout.range_size));
         }
         reader.turn();
     }

@@ -10,7 +10,6 @@ ghost use Rattle.pipe_load.specs.Scanning.{IsStage, HasScanned};
 ghost use Rattle.pipe_load.specs.Slots.{AreSlots, HasPut, HoldsAll, IsAllHeld};
 
 use crate::feeding::Feed;
-use crate::joining::Counted;
 use crate::pipeline::Pipeline;
 use crate::reader::Reader;
 use crate::slots::Slots;
@@ -18,6 +17,7 @@ use crate::stage::Stage;
 use crate::stages::any_short;
 use crate::windows::{Pass, Windows};
 use csv_source::{Gate, NoMemory};
+use range_scan::Joined;
 use std::alloc::Global;
 use std::sync::Wait;
 use std::thread::Threads;
@@ -61,7 +61,7 @@ impl<'r, 'a, R: Threads + Wait + Sync, G: Gate> Pipeline<'r, 'a, R, G> {
         windows: &Windows,
         feed: Feed,
         stages: Vec<Stage>,
-        counted: &mut Counted,
+        joined: &mut Joined,
         reader: &mut Reader,
     ) -> Result<(), NoMemory>
         requires feed { IsCallers windows.now (vec_len stages) feed.pass }
@@ -69,16 +69,16 @@ impl<'r, 'a, R: Threads + Wait + Sync, G: Gate> Pipeline<'r, 'a, R, G> {
         requires numbered { AreNumbered (made_of feed) }
         requires stages { All (IsStage windows.now) stages.items }
         requires all { All (λ stage. stage.short ≡ false → HasScanned self.now.scanner.ranges.context.now self.now.scanner.layout stage) stages.items }
-        requires types { counted.old.joined.table.types ≡ self.now.scanner.ranges.context.now.schema.types }
-        requires keep { counted.old.joined.book.keep ≡ self.now.scanner.ranges.context.now.keep }
-        ensures ok { OnOk result (AddsWindows self.now.scanner.ranges.context.now self.now.scanner.layout (made_of feed) reader.old.number reader.old.number counted.old counted.new) }
+        requires types { joined.old.table.types ≡ self.now.scanner.ranges.context.now.schema.types }
+        requires keep { joined.old.book.keep ≡ self.now.scanner.ranges.context.now.keep }
+        ensures ok { OnOk result (AddsWindows self.now.scanner.ranges.context.now self.now.scanner.layout (made_of feed) reader.old.number reader.old.number joined.old joined.new) }
         ensures same { (reader.new.window ≡ reader.old.window) × (reader.new.number ≡ reader.old.number) × (reader.new.layout ≡ reader.old.layout) }
     {
         let alloc = self.scanner.ranges.alloc;
         let (mut slots, mut pass) = take_in_hand(alloc, windows, feed, stages, reader.number)?;
         for number in 0..reader.number {
             let kept = slots.fetch(self.rt, alloc, windows, &mut pass, number);
-            let spare = counted.add_window(&self.scanner, kept)?;
+            let spare = self.scanner.add_window(joined, kept)?;
             reader.spares.push(spare)?;
         }
         Ok(())

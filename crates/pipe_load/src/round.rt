@@ -9,14 +9,13 @@ ghost use Rattle.pipe_load.specs.Loading.{HasReach, AddsRound};
 ghost use Rattle.pipe_load.specs.Reading.{EndsRound, ReadsOn};
 
 use crate::feeding::Feed;
-use crate::joining::Counted;
 use crate::pipeline::Pipeline;
 use crate::reader::Reader;
 use crate::scanner::Scanner;
 use crate::stages::stages_of;
 use crate::windows::Windows;
 use csv_source::{Gate, Source};
-use range_scan::RangeScanner;
+use range_scan::{Joined, RangeScanner};
 use std::collections::VecDeque;
 use std::sync::Wait;
 use std::thread::Threads;
@@ -55,18 +54,18 @@ impl<'r, 'a, R: Threads + Wait + Sync, G: Gate> Pipeline<'r, 'a, R, G> {
     pub fn load_round<S: Source + Send>(
         &self,
         reader: &mut Reader,
-        counted: &mut Counted,
+        joined: &mut Joined,
         source: &mut S,
     ) -> Result<(), LoadStop>
         requires layout { reader.old.layout ≡ self.now.scanner.layout }
         requires start { reader.old.number ≡ 0 }
         requires at_end { reader.old.window.ended ≡ true → IsAtEnd (S.left source.old) }
-        requires types { counted.old.joined.table.types ≡ self.now.scanner.ranges.context.now.schema.types }
-        requires keep { counted.old.joined.book.keep ≡ self.now.scanner.ranges.context.now.keep }
+        requires types { joined.old.table.types ≡ self.now.scanner.ranges.context.now.schema.types }
+        requires keep { joined.old.book.keep ≡ self.now.scanner.ranges.context.now.keep }
         ensures reads { ReadsOn (S.left source.old) (S.left source.new) (S.held source.old) (S.held source.new) (S.faults source.old) (S.faults source.new)
             reader.old reader.new (stop_in result) }
         ensures ok { OnOk result ((more : List ℕ) × AddsRound self.now.scanner.ranges.context.now self.now.scanner.layout (S.left source.old) (S.left source.new)
-            reader.new.number reader.old.window reader.new.window more counted.old counted.new) }
+            reader.new.number reader.old.window reader.new.window more joined.old joined.new) }
         ensures few { OnOk result (reader.new.number ≤ round_len reader.old.layout) }
         ensures whole { OnOk result (EndsRound reader.old.layout reader.new.number reader.new.window) }
     {
@@ -81,6 +80,6 @@ impl<'r, 'a, R: Threads + Wait + Sync, G: Gate> Pipeline<'r, 'a, R, G> {
             Ok(()) => {}
             Err(stop) => return Err(stop),
         }
-        Ok(self.join_windows(&windows, feed, stages, counted, reader)?)
+        Ok(self.join_windows(&windows, feed, stages, joined, reader)?)
     }
 }

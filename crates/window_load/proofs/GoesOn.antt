@@ -3,8 +3,9 @@ use Rattle.std.proofs.Common.{◌≡◌, ℕ, ◌+◌, ◌≤◌, true, List, []
 use Rattle.std.proofs.KnownBytes.{Consumes-trans}
 use Rattle.range_scan.specs.declared.context.Context.{Context}
 use Rattle.window_load.specs.declared.course.Course.{Course}
-use Rattle.window_load.specs.declared.ranges_read.RangesRead.{RangesRead}
-use Rattle.window_load.specs.Reading.{MayGoOn, IsReading, IsReadInWindows}
+use Rattle.window_load.specs.declared.data_read.WindowRead.{WindowRead}
+use Rattle.window_load.specs.DataRead.{IsWindowRead}
+use Rattle.window_load.specs.Reading.{MayGoOn, IsReadInWindows}
 use Rattle.window_load.specs.Window.{WindowView, behind_front, reach, GoesOn, ReachesOn}
 use Rattle.window_load.proofs.ReachedOn.{drops_and_reaches}
 use Rattle.window_load.proofs.WindowSteps.{none_behind}
@@ -27,7 +28,7 @@ module _ (before after : Option (List ℕ)) (n : ℕ) (w w2 : WindowView) (g : G
     goes_on_and_reaches = drops_and_reaches before after n w (behind_front n w) w2 refl within g.moved g.base g.most
 
     -- what is read stays read, whatever comes behind it
-    pub still_read : (context : Context) (course : Course) (first : Option (List ℕ)) (old : WindowView) (read : RangesRead) →
+    pub still_read : (context : Context) (course : Course) (first : Option (List ℕ)) (old : WindowView) (read : WindowRead) →
         IsReadInWindows context course first before old w read → IsReadInWindows context course first after old w2 read
     still_read context course first old read r =
         let text : List ℕ = old.kept ++ r.0 in
@@ -38,5 +39,5 @@ module _ (before after : Option (List ℕ)) (n : ℕ) (w w2 : WindowView) (g : G
           Consumes-trans first before after r.0 new r.1 g.moved.2,
           omega (arith, r.2, reached, length-append r.0 new),
           λ ended. let quiet = r.3 ended in let none = none_came quiet.1 in ((λ i. quiet.0 i ++ none i), still_ended quiet.1),
-          λ more may. subst (λ t. IsReading context t course read) (later more) (r.4 (new ++ more) (may_before more may)),
+          λ more may. subst (λ t. IsWindowRead context t course.start course.range_size course.stop read) (later more) (r.4 (new ++ more) (may_before more may)),
         )

@@ -16,10 +16,11 @@ use Rattle.load_crew.specs.declared.group_read.GroupRead.{GroupRead}
 use Rattle.load_crew.specs.GroupRead.{IsGroupRead}
 use Rattle.load_crew.specs.Groups.{shared_groups, group_of}
 use Rattle.window_load.specs.declared.course.Course.{Course}
-use Rattle.window_load.specs.declared.ranges_read.RangesRead.TheVariants as reads
+use Rattle.window_load.specs.declared.data_read.WindowRead.TheVariants as reads
+use Rattle.window_load.specs.DataRead.{data_read}
 use Rattle.window_load.specs.Groups.{group_in, group_reach}
 use Rattle.window_load.specs.Reading.{MayGoOn, IsReadInWindows, IsReadUpTo}
-use Rattle.window_load.specs.Window.{WindowView, behind_front, IsFilled}
+use Rattle.window_load.specs.Window.{WindowView, reach, behind_front, IsFilled}
 use Rattle.window_load.proofs.GroupSteps.{begun, added, has_first, stopped, whole}
 use Rattle.window_load.proofs.GroupWindows.{group_width, read_in_data, is_one, all_groups_read}
 use Rattle.window_load.proofs.SoFar.{IsReadSoFar}
@@ -54,8 +55,9 @@ module _ (context : Context) (course : Course) (some : 0 < course.range_size) (l
     is_keep = ap (λ (b : BookView). b.keep) (r.read [] (λ ended. refl)).0.part.book
 
     -- all groups are read
-    pub read_all : IsFilled (at + group_reach course.range_size context.schema.max_line_size) w → at ≡ length w.kept → IsReadInWindows context course left_before left_after old w (reads.All joined)
-    read_all filled over = (
+    pub read_all : IsFilled (at + group_reach course.range_size context.schema.max_line_size) w → at ≡ length w.kept → old.base ≡ course.start → (count : ℕ) → count ≡ reach w - course.start →
+        IsReadInWindows context course left_before left_after old w (reads.All (data_read joined count course.range_size))
+    read_all filled over begins count counted = (
       r.came,
       r.taken,
       r.reached,
@@ -63,7 +65,9 @@ module _ (context : Context) (course : Course) (some : 0 < course.range_size) (l
       λ more may.
           let last : k ≡ shared_groups (length ((old.kept ++ r.came) ++ more)) course.range_size =
           all_groups_read course.start course.range_size k at (old.kept ++ r.came) w r.stands some context.schema.max_line_size filled.0 over more may (r.read more may).1 in
-          whole context ((old.kept ++ r.came) ++ more) course some joined
+          let wide : 0 < group_width course.range_size = omega (arith, some) in
+          whole context ((old.kept ++ r.came) ++ more) course some joined count
+          (counted ∙ so_far.read_length (AreGroupsRead context course k joined) course.start (group_width course.range_size) left_before left_after old w k at r wide context.schema.max_line_size filled.0 over begins more may)
           (subst (λ n. IsReadUpTo context ((old.kept ++ r.came) ++ more) course n joined) last (r.read more may).0),
     )
 

@@ -19,10 +19,11 @@ use Rattle.range_scan.specs.Ranges.{AddsSpan, IsJoinedTo, ranges_part}
 use Rattle.range_scan.proofs.RangeSteps.{none, begun, next_range, no_faults, first_reject_is, all_ranges}
 use Rattle.value_types.specs.Datum.{Datum}
 use Rattle.window_load.specs.declared.course.Course.{Course}
-use Rattle.window_load.specs.declared.ranges_read.RangesRead.TheVariants as reads
+use Rattle.window_load.specs.declared.data_read.WindowRead.TheVariants as reads
+use Rattle.window_load.specs.DataRead.{data_read, IsDataRead}
 use Rattle.window_load.specs.Ranges.{begins_behind, span_in, range_reach}
-use Rattle.window_load.specs.Reading.{whole_part, MayGoOn, IsReadInWindows, IsReadWhole}
-use Rattle.window_load.specs.Window.{WindowView, behind_front, IsFilled}
+use Rattle.window_load.specs.Reading.{MayGoOn, IsReadInWindows}
+use Rattle.window_load.specs.Window.{WindowView, reach, behind_front, IsFilled}
 use Rattle.window_load.proofs.RangeWindows.{is_one, inside, part_is, width_is, guess_is, all_ranges_read}
 use Rattle.window_load.proofs.SoFar.{IsReadSoFar}
 use Rattle.window_load.proofs.SoFar as so_far
@@ -40,13 +41,14 @@ IsUpToRange context course left_before left_after old w k at joined =
 
 -- all ranges are the data
 whole : (context : Context) (text : List ℕ) (course : Course) → 0 < course.range_size → (joined : Joined) →
-    IsJoinedTo context text course.start course.range_size (range_count (length text) course.range_size) joined → (course.stop ≡ true → (whole_part context text course).faults ≡ []) →
-    IsReadWhole context text course joined
-whole context text course some joined h good = record {
+    IsJoinedTo context text course.start course.range_size (range_count (length text) course.range_size) joined → (count : ℕ) → count ≡ length text →
+    IsDataRead context text course.start course.range_size (data_read joined count course.range_size)
+whole context text course some joined h count counted = record {
   part = subst (λ (p : Part (List Datum) Reject). IsJoinedPart context p joined) (all_ranges context text course.start course.range_size some) h.part;
-  again = h.rescans;
+  bytes = counted;
+  ranges = ap (λ n. range_count n course.range_size) counted;
+  rescanned_ranges = h.rescans;
   scanned = ap (λ n. length text + n) h.rescanned;
-  good = good;
 }
 
 module _ (context : Context) (course : Course) (some : 0 < course.range_size) (left_before : Option (List ℕ)) (old : WindowView) where
@@ -69,8 +71,9 @@ module _ (context : Context) (course : Course) (some : 0 < course.range_size) (l
     is_keep = ap (λ (b : BookView). b.keep) (r.read [] (λ ended. refl)).up.part.book
 
     -- all ranges are read
-    pub read_all : (line : ℕ) → IsFilled (at + range_reach course.range_size line) w → at ≡ length w.kept → IsReadInWindows context course left_before left_after old w (reads.All joined)
-    read_all line filled over = (
+    pub read_all : (line : ℕ) → IsFilled (at + range_reach course.range_size line) w → at ≡ length w.kept → old.base ≡ course.start → (count : ℕ) → count ≡ reach w - course.start →
+        IsReadInWindows context course left_before left_after old w (reads.All (data_read joined count course.range_size))
+    read_all line filled over begins count counted = (
       r.came,
       r.taken,
       r.reached,
@@ -79,9 +82,11 @@ module _ (context : Context) (course : Course) (some : 0 < course.range_size) (l
           let text : List ℕ = (old.kept ++ r.came) ++ more in
           let h : AreRangesRead context course k joined text = r.read more may in
           let last : k ≡ range_count (length text) course.range_size =
-          all_ranges_read course.start course.range_size k at (old.kept ++ r.came) w r.stands some line filled.0 over more may h.few in
-          whole context text course some joined (subst (λ n. IsJoinedTo context text course.start course.range_size n joined) last h.up)
-          (λ stops. sym (ap (λ (p : Part (List Datum) Reject). p.faults) (ap (ranges_part context text course.start course.range_size) last ∙ all_ranges context text course.start course.range_size some)) ∙ h.good stops),
+          all_ranges_read course.start course.range_size k at (old.kept ++ r.came) w r.stands some line filled.0 over more may h.few in (
+            whole context text course some joined (subst (λ n. IsJoinedTo context text course.start course.range_size n joined) last h.up) count
+                (counted ∙ so_far.read_length (AreRangesRead context course k joined) course.start course.range_size left_before left_after old w k at r some line filled.0 over begins more may),
+            λ stops. sym (ap (λ (p : Part (List Datum) Reject). p.faults) (ap (ranges_part context text course.start course.range_size) last ∙ all_ranges context text course.start course.range_size some)) ∙ h.good stops,
+          ),
     )
 
     module _ (line : ℕ) (filled : IsFilled (at + range_reach course.range_size line) w) (there : at < length w.kept)

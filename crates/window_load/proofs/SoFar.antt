@@ -1,5 +1,5 @@
 -- How far data are read in windows, step by step.
-use Rattle.std.proofs.Common.{◌≡◌, ◌⊎◌, ℕ, ◌+◌, ◌-◌, ◌<◌, ◌≤◌, min, true, List, [], ◌++◌, length, Option, refl, sym, ◌∙◌, ap, subst, arith, append_assoc, length-append, length-drop}
+use Rattle.std.proofs.Common.{◌≡◌, ◌⊎◌, inl, inr, ℕ, ◌+◌, ◌-◌, ◌<◌, ◌≤◌, min, true, List, [], ◌++◌, length, Option, refl, sym, ◌∙◌, ap, subst, arith, append_assoc, length-append, length-drop}
 use Rattle.std.specs.Io.KnownBytes.{Consumes}
 use Rattle.std.proofs.KnownBytes.{Consumes-nil, Consumes-trans}
 use Rattle.csv_source.specs.Moves.{MovesFront}
@@ -54,6 +54,13 @@ module _ (Holds : List ℕ → Type 0) (start width : ℕ) (left_before left_aft
             );
         read = λ more ends. subst Holds (later more) (r.read (new ++ more) (may more ends));
       }
+
+  -- where no step is left, it has so many bytes
+  pub read_length : (some : 0 < width) (line : ℕ) (filled : (w.ended ≡ true) ⊎ (at + (width + (line + 1)) ≤ length w.kept)) → at ≡ length w.kept → old.base ≡ start →
+      (more : List ℕ) → MayGoOn w more → reach w - start ≡ length (text ++ more)
+  read_length some line filled over begins more may =
+      let ended : w.ended ≡ true = elim filled [ inl ended ↦ ended | inr far ↦ absurd (let wrong : ⊥ = omega (arith, far, over) in wrong) ] in
+      omega (arith, r.reached, begins, length-append old.kept r.came, length-append text more, ap length (may ended))
 
   -- a step is read
   pub read_step : (Next : List ℕ → Type 0) (some : 0 < width) (line : ℕ) (filled : (w.ended ≡ true) ⊎ (at + (width + (line + 1)) ≤ length w.kept)) (there : at < length w.kept) →

@@ -11,7 +11,7 @@ ghost use Rattle.window_load.specs.declared.stop.LoadStop.TheVariants as stops;
 use crate::course::Course;
 use crate::crew::GroupReader;
 use crate::data_loader::DataLoader;
-use crate::data_read::{WindowRead, window_read};
+use crate::data_read::WindowRead;
 use crate::groups::read_groups;
 use crate::stop::LoadStop;
 use crate::window::InputWindow;
@@ -53,10 +53,9 @@ pub fn window_load<R: Threads + Sync, S: Source + Send, G: Gate>(
 {
     let mut window = head;
     window.drop_front(data_start);
-    let range_size = loader.range_size;
     let course = Course {
         start: data_start as u64,
-        range_size,
+        range_size: loader.range_size,
         stop: loader.stop,
     };
     let reader = GroupReader {
@@ -68,6 +67,5 @@ pub fn window_load<R: Threads + Sync, S: Source + Send, G: Gate>(
     };
     let read = read_groups(&reader, course, &mut window, source)?;
     window.read_past(source)?;
-    let length = window.reach() - course.start;
-    Ok(window_read(read, length, range_size))
+    Ok(read)
 }

@@ -9,7 +9,7 @@ ghost use Rattle.window_load.specs.Reads.{Reads, stop_in};
 
 use crate::adding::add_range;
 use crate::course::Course;
-use crate::ranges_read::RangesRead;
+use crate::data_read::{DataRead, WindowRead};
 use crate::reject::first_reject;
 use crate::stop::LoadStop;
 use crate::window::InputWindow;
@@ -52,7 +52,7 @@ pub fn read_ranges<S: Source, G: Gate>(
     course: Course,
     window: &mut InputWindow,
     source: &mut S,
-) -> Result<RangesRead, LoadStop>
+) -> Result<WindowRead, LoadStop>
     requires some { 0 < course.range_size }
     requires within { course.range_size ≤ RANGE_SIZE.most }
     requires line { scanner.now.context.now.schema.max_line_size ≤ MAX_LINE_SIZE.most }
@@ -74,7 +74,9 @@ pub fn read_ranges<S: Source, G: Gate>(
         let line = if far { most } else { most.min(NEAR) };
         window.fill_to(source, at + range_reach(course.range_size, line))?;
         if at == window.len() {
-            return Ok(RangesRead::All(joined));
+            let length = window.reach() - course.start;
+            let read = DataRead::of(joined, length, course.range_size);
+            return Ok(WindowRead::All(read));
         }
         if !far {
             scanner.gate.claimed(CALLER, number);
@@ -87,7 +89,7 @@ pub fn read_ranges<S: Source, G: Gate>(
         }
         if course.stop && joined.book.len() > 0 {
             let reject = first_reject(alloc, &joined.book, 0)?;
-            return Ok(RangesRead::Stopped(reject));
+            return Ok(WindowRead::Stopped(reject));
         }
         window.drop_front(span.to - 1);
         at = 1;

@@ -124,7 +124,7 @@ fn load<R: Threads + Wait + Sync + Abort>(
 
 /// Whether all rows are read.
 fn has_all_rows(read: &Result<WindowRead, LoadStop>) -> bool {
-    matches!(read, Ok(WindowRead::All(read)) if read.table.rows() == ROWS)
+    matches!(read, Ok(WindowRead::All(read)) if read.joined.table.rows() == ROWS)
 }
 
 // The queue is full while the stages wait for more to be read.

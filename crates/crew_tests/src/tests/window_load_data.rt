@@ -34,9 +34,9 @@ enum Told {
 fn told_of(read: &Result<WindowRead, LoadStop>) -> Told {
     match read {
         Ok(WindowRead::All(read)) => Told::All([
-            read.table.rows() as u64,
-            read.book.all(),
-            read.line_ends,
+            read.joined.table.rows() as u64,
+            read.joined.book.all(),
+            read.joined.line_ends,
             read.length,
             read.ranges,
         ]),

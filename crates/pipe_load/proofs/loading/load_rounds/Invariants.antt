@@ -5,17 +5,17 @@ use Rattle.pipe_load.specs.Layout.{IsLayout}
 use Rattle.pipe_load.proofs.RoundLaws.{IsUpToRound}
 use Rattle.pipe_load.proofs.loading.load_rounds.Given as goal
 
-abbrev pub invariant-loop-counted : goal.invariant-loop-counted
-invariant-loop-counted g l = record {
+abbrev pub invariant-loop-joined : goal.invariant-loop-joined
+invariant-loop-joined g l = record {
   plan : l.reader.layout ≡ record l.fn.layout { before = l.reader.layout.before };
   lies : IsLayout l.reader.layout;
   number : l.reader.number ≡ 0;
-  up_to : IsUpToRound l.loader.context.now l.reader.layout l.fn.window (g.S.Source.left l.fn.source) (g.S.Source.left l.source) l.reader.window l.counted;
-  types : l.counted.joined.table.types ≡ l.loader.context.now.schema.types;
-  keep : l.counted.joined.book.keep ≡ l.loader.context.now.keep;
+  up_to : IsUpToRound l.loader.context.now l.reader.layout l.fn.window (g.S.Source.left l.fn.source) (g.S.Source.left l.source) l.reader.window l.joined;
+  types : l.joined.table.types ≡ l.loader.context.now.schema.types;
+  keep : l.joined.book.keep ≡ l.loader.context.now.keep;
   reads : Reads (g.S.Source.left l.fn.source) (g.S.Source.left l.source) (g.S.Source.held l.fn.source) (g.S.Source.held l.source) (g.S.Source.faults l.fn.source) (g.S.Source.faults l.source) l.fn.window l.reader.window None;
 }
 
 -- each round has windows
-abbrev pub decreases-loop-counted : goal.decreases-loop-counted
-decreases-loop-counted g l = 2 ^ 41 - l.reader.layout.before
+abbrev pub decreases-loop-joined : goal.decreases-loop-joined
+decreases-loop-joined g l = 2 ^ 41 - l.reader.layout.before

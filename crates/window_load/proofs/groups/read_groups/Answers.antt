@@ -2,7 +2,9 @@ use Rattle.std.proofs.Common.{◌≡◌, ◌+◌, ◌-◌, ◌<◌, ◌≤◌, �
 use Rattle.std.specs.Prelude.{None, Err}
 use Rattle.reject_book.specs.BookView.{BookView}
 use Rattle.range_guess.specs.declared.stretch.Stretch.{Stretch as Group}
-use Rattle.window_load.specs.declared.ranges_read.RangesRead.TheVariants as reads
+use Rattle.window_load.specs.declared.data_read.DataRead.{DataRead}
+use Rattle.window_load.specs.declared.data_read.WindowRead.TheVariants as reads
+use Rattle.window_load.specs.Reading.{IsReadInWindows}
 use Rattle.window_load.specs.Groups.{group_reach}
 use Rattle.window_load.specs.Reads.{stop_in}
 use Rattle.window_load.specs.Window.{IsFilled, behind_front, reach}
@@ -141,7 +143,9 @@ loop-at-preserved g c =
 pub returns-clause-ok : goal.returns-clause-ok
 returns-clause-ok g c =
     let over : c.loop-at.at ≡ length c.loop-at.window.kept = omega (arith, c.loop-at-test.false, c.len.ensures, at_within c.args.course.start (group_width c.args.course.range_size) c.loop-at.number c.loop-at.at _ c.loop-at.window c.loop-at.invariant.up_to.stands) in
-    read_all c.args.reader.now.context.now c.args.course c.requires.some (g.S.Source.left c.args.source.now) c.args.window.now (g.S.Source.left c.loop-at.source) c.loop-at.window c.loop-at.number c.loop-at.at c.loop-at.joined c.loop-at.invariant.up_to c.loop-at.invariant.filled over
+    subst (λ (d : DataRead). IsReadInWindows c.args.reader.now.context.now c.args.course (g.S.Source.left c.args.source.now) (g.S.Source.left c.loop-at.source) c.args.window.now c.loop-at.window (reads.All d)) (sym c.of-read.ensures)
+    (read_all c.args.reader.now.context.now c.args.course c.requires.some (g.S.Source.left c.args.source.now) c.args.window.now (g.S.Source.left c.loop-at.source) c.loop-at.window c.loop-at.number c.loop-at.at c.loop-at.joined c.loop-at.invariant.up_to c.loop-at.invariant.filled over
+    c.requires.begins _ (ap (λ n. n - c.args.course.start) c.reach.ensures))
 
 pub returns-clause-reads : goal.returns-clause-reads
 returns-clause-reads g c = c.loop-at.invariant.reads

@@ -2,7 +2,10 @@ use Rattle.std.proofs.Common.{inl, inr, ◌⊎◌, ◌≡◌, ◌+◌, ◌-◌, 
 use Rattle.std.specs.Prelude.{None, Err}
 use Rattle.range_guess.specs.declared.span.Span.{Span}
 use Rattle.range_scan.specs.declared.joined.Joined.{Joined}
+use Rattle.window_load.specs.declared.data_read.DataRead.{DataRead}
+use Rattle.window_load.specs.declared.data_read.WindowRead.TheVariants as reads
 use Rattle.window_load.specs.Ranges.{range_reach}
+use Rattle.window_load.specs.Reading.{IsReadInWindows}
 use Rattle.window_load.specs.Reads.{stop_in}
 use Rattle.window_load.specs.Window.{IsFilled}
 use Rattle.window_load.proofs.ReadSteps.{reads_none, reads_short, answers_on, drops_on, fill_reaches}
@@ -79,7 +82,9 @@ returns-then-at-len-clause-ok g c =
     let line = c.if-far.line in
     let filled : IsFilled (c.loop-far.at + range_reach c.args.course.range_size line) c.fill_to.new.self =
     subst (λ n. IsFilled (c.loop-far.at + n) c.fill_to.new.self) c.range_reach.ensures c.in_ok-fill_to.ensures.ok in
-    read_all c.args.scanner.now.context.now c.args.course c.requires.some (g.S.Source.left c.args.source.now) c.args.window.now (g.S.Source.left c.fill_to.new.source) c.fill_to.new.self c.loop-far.number c.loop-far.at c.loop-far.joined so_far line filled (omega (arith, c.if-at-len.true, c.len.ensures))
+    subst (λ (d : DataRead). IsReadInWindows c.args.scanner.now.context.now c.args.course (g.S.Source.left c.args.source.now) (g.S.Source.left c.fill_to.new.source) c.args.window.now c.fill_to.new.self (reads.All d)) (sym c.of-read.ensures)
+    (read_all c.args.scanner.now.context.now c.args.course c.requires.some (g.S.Source.left c.args.source.now) c.args.window.now (g.S.Source.left c.fill_to.new.source) c.fill_to.new.self c.loop-far.number c.loop-far.at c.loop-far.joined so_far line filled (omega (arith, c.if-at-len.true, c.len.ensures))
+    c.requires.begins _ (ap (λ n. n - c.args.course.start) c.reach.ensures))
 
 pub returns-then-len-gt0-clause-ok : goal.returns-then-len-gt0-clause-ok
 returns-then-len-gt0-clause-ok g c =

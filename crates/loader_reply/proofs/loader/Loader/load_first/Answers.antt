@@ -1,4 +1,4 @@
-use Rattle.std.proofs.Common.{◌≡◌, ◌<◌, ◌^◌, ◌∙◌, Err, length, sym, subst, ap, rules}
+use Rattle.std.proofs.Common.{◌≡◌, ◌<◌, ◌^◌, ◌∙◌, Some, Err, length, sym, subst, ap, rules}
 use Rattle.csv_sniffer.specs.declared.found.Sniffed.{Sniffed}
 use Rattle.csv_sniffer.proofs.LaterHeaders.{few_found}
 use Rattle.range_scan.specs.Scanned.{HasColumns}
@@ -45,8 +45,8 @@ returns-in_ok-of_one-in-Ok g c =
     let s = c.in_ok-finding.field-0.finding.sniffed in
     let load = c.in-Ok.load in
     let named : c.in_ok-file.file ≡ c.args.name.now = c.in_ok-file.ensures ∙ c.as_bytes.ensures.value in
-    let same : c.in_ok-of_one-in-Ok.field-0 ≡ record { sniffed = s; load = with_load (no_files s.types) c.args.name.now load } =
-    c.in_ok-of_one-in-Ok.ensures.ok ∙ ap (λ n. record { sniffed = s; load = with_load (no_files s.types) n load }) named in record {
+    let same : c.in_ok-of_one-in-Ok.field-0 ≡ record { sniffed = s; load = with_load (no_files s.types) c.args.name.now (Some load) } =
+    c.in_ok-of_one-in-Ok.ensures.ok ∙ ap (λ n. record { sniffed = s; load = with_load (no_files s.types) n (Some load) }) named in record {
       ok = subst (λ (files : LoadedFiles). ReadsNext o files.sniffed held c.args.name.now 0 (no_files files.sniffed.types) files.load (left c.load_data.new.source)) (sym same)
           (reads_first o s held c.args.name.now (left c.load_data.new.source) load
           (first_whole o held c.args.name.now (left c.open_head.new.source) (left c.sniff_head.new.source) (left c.load_data.new.source) c.in_ok-head.head c.in_ok-finding.field-0

@@ -1,7 +1,6 @@
-use Rattle.std.proofs.Common.{◌≡◌, ◌+◌, ◌∙◌, rules}
-use Rattle.std.proofs.lemmas.Result.{IfOk-weaker}
+use Rattle.std.proofs.Common.{◌≡◌, ◌+◌, ◌∙◌, Some, None, rules}
+use Rattle.window_load.specs.DataRead.{ComesOver}
 use Rattle.window_load.specs.Window.{reach}
-use Rattle.loader_reply.specs.declared.loading.FileLoad.TheVariants.{OtherHeader}
 use Rattle.loader_reply.specs.Loading.{IsFileLoad, IsLaterLoad}
 use Rattle.loader_reply.proofs.HeadFiles.{whole_file, over_file}
 use Rattle.loader_reply.proofs.HeadSteps.{begins_at, begins_otherwise, headed_in_all, later_load, past_over, past_whole}
@@ -26,23 +25,24 @@ returns-in_ok-read_past-in-None-clause-ok g c =
     let head = c.in_ok-head.head in
     let other = begins_otherwise o s c.bytes.result.now head.kept c.in_ok-begins.begins c.in_ok-begins.ensures.ok c.bytes.ensures c.in-None.is in
     whole_file o.max_input (g.S.Source.held c.args.source.now) c.args.name.now (g.S.Source.left c.open_head.new.source) (g.S.Source.left c.read_past.new.source) head c.in_ok-head.ensures.ok.0.limit c.in_ok-head.ensures.ok.1
-    (λ input. IsLaterLoad o s c.args.file_id input OtherHeader) (λ input. IsLaterLoad o s c.args.file_id input OtherHeader) (λ came quiet is. is)
+    (λ input. IsLaterLoad o s c.args.file_id input None) (λ input. IsLaterLoad o s c.args.file_id input None) (λ came quiet is. is)
     (past_whole (g.S.Source.left c.open_head.new.source) (g.S.Source.left c.read_past.new.source) head c.read_past.new.self c.in_ok-head.ensures.ok.0.begins c.read_past.ensures.moved
-    (λ input. IsLaterLoad o s c.args.file_id input OtherHeader) c.read_past.ensures.stays (c.read_past.ensures.at_end c.in_ok-read_past-in-None.ensures.ok.0) c.in_ok-read_past-in-None.ensures.ok.1
+    (λ input. IsLaterLoad o s c.args.file_id input None) c.read_past.ensures.stays (c.read_past.ensures.at_end c.in_ok-read_past-in-None.ensures.ok.0) c.in_ok-read_past-in-None.ensures.ok.1
     (λ came quiet. headed_in_all o head c.in_ok-head.ensures.ok.0 came quiet s ∙ other))
 
-pub returns-in-Some-clause-ok : goal.returns-in-Some-clause-ok
-returns-in-Some-clause-ok g c =
+pub returns-in_ok-load_data-in-Some-clause-ok : goal.returns-in_ok-load_data-in-Some-clause-ok
+returns-in_ok-load_data-in-Some-clause-ok g c =
     let o = c.args.self.now.options.now in
     let s = c.args.sniffed.now in
     let head = c.in_ok-head.head in
+    let load = c.in_ok-load_data-in-Some.field-0 in
     let alike = (begins_at o s c.bytes.result.now head.kept c.in_ok-begins.begins c.in_ok-begins.ensures.ok c.bytes.ensures c.in-Some.start c.in-Some.is).0 in
-    IfOk-weaker c.load_data.result _ _
-    (λ load. whole_file o.max_input (g.S.Source.held c.args.source.now) c.args.name.now (g.S.Source.left c.open_head.new.source) (g.S.Source.left c.load_data.new.source) head c.in_ok-head.ensures.ok.0.limit c.in_ok-head.ensures.ok.1
-    (λ input. IsFileLoad o s c.args.file_id input load) (λ input. IsLaterLoad o s c.args.file_id input load) (λ came quiet is. later_load o head c.in_ok-head.ensures.ok.0 came quiet s c.args.file_id load alike is))
-    c.load_data.ensures.ok
+    whole_file o.max_input (g.S.Source.held c.args.source.now) c.args.name.now (g.S.Source.left c.open_head.new.source) (g.S.Source.left c.load_data.new.source) head c.in_ok-head.ensures.ok.0.limit c.in_ok-head.ensures.ok.1
+    (λ input. IsFileLoad o s c.args.file_id input load) (λ input. IsLaterLoad o s c.args.file_id input (Some load)) (λ came quiet is. later_load o head c.in_ok-head.ensures.ok.0 came quiet s c.args.file_id load alike is)
+    c.in_ok-load_data-in-Some.ensures.ok
 
-pub returns-in-Some-clause-too_large : goal.returns-in-Some-clause-too_large
-returns-in-Some-clause-too_large g c = λ e.
+pub returns-in_err-load_data-in-Some-clause-too_large : goal.returns-in_err-load_data-in-Some-clause-too_large
+returns-in_err-load_data-in-Some-clause-too_large g c = λ e.
+    let over : ComesOver (g.S.Source.left c.open_head.new.source) (g.S.Source.left c.load_data.new.source) c.in_ok-head.head = search rules in
     over_file c.args.self.now.options.now.max_input (g.S.Source.held c.args.source.now) c.args.name.now (g.S.Source.left c.open_head.new.source) (g.S.Source.left c.load_data.new.source) c.in_ok-head.head c.in_ok-head.ensures.ok.0.limit c.in_ok-head.ensures.ok.1
-    (c.load_data.ensures.too_large e)
+    over

@@ -19,7 +19,7 @@ loop-number-init g c =
       many = hand.same;
       slots = hand.slots context l c.requires.all;
       held = hand.held;
-      adds = adds_none context l (made_of c.args.feed) c.args.reader.now.number c.args.counted.now c.requires.types c.requires.keep;
+      adds = adds_none context l (made_of c.args.feed) c.args.reader.now.number c.args.joined.now c.requires.types c.requires.keep;
       same = (refl, refl, refl);
     }
 
@@ -36,7 +36,7 @@ loop-number-preserved g c =
       many = c.fetch-kept.ensures.same ∙ inv.many;
       slots = got.0;
       held = c.fetch-kept.ensures.held;
-      adds = adds_window context l made c.args.reader.now.number c.loop-number.number c.fetch-kept.result.window c.args.counted.now c.loop-number.counted c.add_window.new.self
+      adds = adds_window context l made c.args.reader.now.number c.loop-number.number c.fetch-kept.result.window c.args.joined.now c.loop-number.joined c.add_window.new.joined
           c.args.self.now.scanner.lies c.args.self.now.reaches got.1.one got.2 c.loop-number-test.true inv.adds c.in_ok-spare.ensures;
       same = inv.same;
     }
@@ -44,4 +44,4 @@ loop-number-preserved g c =
 pub returns-clause-ok : goal.returns-clause-ok
 returns-clause-ok g c =
     let last : c.loop-number.number ≡ c.args.reader.now.number = let t = c.loop-number-test.false in omega (arith, t) in
-    subst (λ n. AddsWindows c.args.self.now.scanner.ranges.context.now c.args.self.now.scanner.layout (made_of c.args.feed) c.args.reader.now.number n c.args.counted.now c.loop-number.counted) last c.loop-number.invariant.adds
+    subst (λ n. AddsWindows c.args.self.now.scanner.ranges.context.now c.args.self.now.scanner.layout (made_of c.args.feed) c.args.reader.now.number n c.args.joined.now c.loop-number.joined) last c.loop-number.invariant.adds

@@ -11,6 +11,6 @@ invariant-loop-number g l = record {
   many : vec_len l.slots.slots ≡ l.fn.reader.number;
   slots : AreSlots l.self.scanner.ranges.context.now l.self.scanner.layout (made_of l.fn.feed) l.slots;
   held : IsAllHeld l.number l.slots (view l.pass);
-  adds : AddsWindows l.self.scanner.ranges.context.now l.self.scanner.layout (made_of l.fn.feed) l.fn.reader.number l.number l.fn.counted l.counted;
+  adds : AddsWindows l.self.scanner.ranges.context.now l.self.scanner.layout (made_of l.fn.feed) l.fn.reader.number l.number l.fn.joined l.joined;
   same : (l.reader.window ≡ l.fn.reader.window) × (l.reader.number ≡ l.fn.reader.number) × (l.reader.layout ≡ l.fn.reader.layout);
 }
