@@ -26,7 +26,8 @@ use Rattle.loader_reply.specs.Reading.{reading, schema_of, verdicts, table_rows,
 use Rattle.table_laws.specs.PartLaws.{all_placed, alone, part_bytes, part_verdicts, head_of, data_of, rule_of, input_parts, lines_before, bytes_before, IsFoundBehind, PartsAreFoundAlike, PartsAreLoadedAlone}
 use Rattle.table_laws.proofs.AloneFound.{IsFoundAlone, found_alone}
 use Rattle.table_laws.proofs.Divisions.{division}
-use Rattle.table_laws.proofs.HeadLines.{Follows, SampleBegins, sample_begins, follow_on, bare_again}
+use Rattle.table_laws.proofs.HeadLines.{Follows, follow_on}
+use Rattle.table_laws.proofs.HeadMark.{SampleBegins, sample_begins, bare_again}
 use Rattle.table_laws.proofs.HeadTaken.{HeadEnd, head_end, takes_header, front_ends, front_long}
 use Rattle.table_laws.proofs.InputParts.{halves, no_pair, read_by_parts}
 use Rattle.table_laws.proofs.PartFollows.{GoesOn, PartGoesOn, goes_at_start, parts_go_on, flat_alike}

@@ -6,8 +6,10 @@ pub mod CutRows
 pub mod Divisions
 pub mod EarlyRows
 pub mod FirstFaults
+pub mod HeadBytes
 pub mod HeadFirst
 pub mod HeadLines
+pub mod HeadMark
 pub mod HeadRow
 pub mod HeadSample
 pub mod HeadTaken
