@@ -1,2 +1,1 @@
 pub mod PassedOn
-pub mod WholeFiles
