@@ -10,7 +10,7 @@ use Rattle.column_store.specs.ColumnChanges.{EachColumn, IsAppended}
 use Rattle.column_store.specs.IsFilled.{IsFilled}
 use Rattle.column_store.specs.RowsOfColumns.{rows_of}
 use Rattle.column_store.proofs.Rows.{joined_rows, maps_same}
-use Rattle.column_store.proofs.Filled.{begun_seen, cells_fit, columns_seen, rows_seen, same_view}
+use Rattle.column_store.proofs.Filled.{begun_seen, columns_seen, rows_seen, same_view}
 
 -- no row is under way
 module _ {xs : List Column} {rows begun spare : ℕ} (filled : IsFilled xs rows begun spare) {view : ChunkView} (seen : chunk_view xs rows begun spare ≡ view) (whole : view.unfinished ≡ []) where
@@ -40,9 +40,9 @@ module _ {xs : List Column} {rows begun spare : ℕ} (filled : IsFilled xs rows 
     within = omega (arith, none_begun filled seen whole);
     longer = λ number other below. absurd (let no : ⊥ = omega (arith, below, none_begun filled seen whole) in no);
     waiting = λ number other low within. length_appended number other (omega (arith, appended.count, within));
-    roomy = λ number other within.
+    roomy = λ number other within some.
         let inside : number < length xs = omega (arith, appended.count, within) in
-        omega (arith, is, left_is, filled.roomy number other inside, (appended.each number other inside).keeps.room, length_appended number other inside, cells_fit (get_or ys number other));
+        omega (arith, is, left_is, some, filled.roomy number other inside (omega (arith, left_is, some)), (appended.each number other inside).keeps.room);
     countable = omega (arith, is, left_is, fits, filled.countable);
   }
 

@@ -8,24 +8,11 @@ use Rattle.value_types.specs.Views.{row_at}
 use Rattle.value_types.specs.declared.types.ColumnType.{ColumnType}
 use Rattle.column_store.specs.ChunkView.{ChunkView, chunk_view}
 use Rattle.column_store.specs.declared.column.Column.{Column}
-use Rattle.column_store.specs.declared.column.Column.TheVariants as columns
-use Rattle.column_store.specs.ColumnCells.{cells_of, room_of, type_of}
-use Rattle.column_store.specs.ColumnChanges.{EachColumn, IsCut, KeepsCells}
+use Rattle.column_store.specs.ColumnCells.{cells_of, type_of}
+use Rattle.column_store.specs.ColumnChanges.{EachColumn, HasCells, IsCut, KeepsCells}
 use Rattle.column_store.specs.IsFilled.{IsFilled}
 use Rattle.column_store.specs.RowsOfColumns.{rows_of}
-use Rattle.column_store.proofs.Options.{length-options}
 use Rattle.column_store.proofs.Rows.{length-rows_of, rows_same, maps_same, rows_of-fewer, rows_of-more}
-
--- ---- a column
-
--- as many cells as there are fit
-pub cells_fit : (column : Column) → length (cells_of column) ≤ room_of column
-cells_fit (columns.Boolean c) = simp length-map (omega (arith, length-options c.nulls.items c.values.items, c.roomy))
-cells_fit (columns.Bigint c) = let n = c.numbers in simp length-map (omega (arith, length-options n.nulls.items n.values.items, n.roomy))
-cells_fit (columns.Date c) = simp length-map (omega (arith, length-options c.nulls.items c.values.items, c.roomy))
-cells_fit (columns.Time c) = simp length-map (omega (arith, length-options c.nulls.items c.values.items, c.roomy))
-cells_fit (columns.Timestamp c) = simp length-map (omega (arith, length-options c.nulls.items c.values.items, c.roomy))
-cells_fit (columns.Varchar c) = simp length-map (omega (arith, length-options c.nulls.items c.texts, c.roomy))
 
 -- ---- what is seen of a chunk
 
@@ -44,6 +31,18 @@ module _ {xs : List Column} {rows begun spare : ℕ} (filled : IsFilled xs rows 
     | inl below ↦ omega (arith, filled.longer number other below)
     | inr low ↦ omega (arith, filled.waiting number other low inside)
   ]
+
+  -- other columns of the same cells, and no row is spare
+  pub filled_packed : (ys : List Column) → EachColumn (λ _. HasCells) xs ys → IsFilled ys rows begun 0
+  filled_packed ys same = record {
+    within = omega (arith, filled.within, same.count);
+    longer = λ number other below. ap length (same.each number other (omega (arith, below, filled.within))).cells ∙ filled.longer number other below;
+    waiting = λ number other low inside.
+        let there : number < length xs = omega (arith, inside, same.count) in
+        ap length (same.each number other there).cells ∙ filled.waiting number other low there;
+    roomy = λ number other inside some. absurd (let no : ⊥ = omega (arith, some) in no);
+    countable = omega (arith, filled.countable);
+  }
 
   module _ {view : ChunkView} (seen : chunk_view xs rows begun spare ≡ view) where
     pub rows_seen : rows ≡ length view.rows
@@ -79,7 +78,7 @@ module _ {xs : List Column} {rows begun spare : ℕ} (filled : IsFilled xs rows 
         within = omega arith;
         longer = λ number other below. absurd (let no : ⊥ = omega (arith, below) in no);
         waiting = λ number other low inside. filled.longer number other (omega (arith, every, inside));
-        roomy = λ number other inside. omega (arith, is, filled.roomy number other inside, filled.longer number other (omega (arith, every, inside)), cells_fit (get_or xs number other));
+        roomy = λ number other inside some. omega (arith, is, some, filled.roomy number other inside (omega (arith, is, some)));
         countable = omega (arith, is, fits, filled.countable);
       }
 
@@ -88,8 +87,11 @@ module _ {xs : List Column} {rows begun spare : ℕ} (filled : IsFilled xs rows 
           (rows_of-more (map cells_of xs) rows ∙ ap (λ cs. rows_of (map cells_of xs) rows ++ row_at cs rows ∷ []) (sym (take_all begun (map cells_of xs) (omega (arith, every, length-map xs cells_of))))
           ∙ (λ i. (seen i).rows ++ (seen i).unfinished ∷ [])) refl refl
 
--- only the memory of the columns has changed, and nothing is seen of it
-pub seen_kept : (xs ys : List Column) → EachColumn (λ _. KeepsCells) xs ys → (rows begun spare : ℕ) → chunk_view ys rows begun spare ≡ chunk_view xs rows begun spare
+pub cells_kept : (xs ys : List Column) → EachColumn (λ _. KeepsCells) xs ys → EachColumn (λ _. HasCells) xs ys
+cells_kept xs ys kept = record { count = kept.count; each = λ number other inside. let same = kept.each number other inside in record { ty = same.ty; cells = same.cells } }
+
+-- only what the cells of the columns are kept in has changed, and nothing is seen of it
+pub seen_kept : (xs ys : List Column) → EachColumn (λ _. HasCells) xs ys → (rows begun spare : ℕ) → chunk_view ys rows begun spare ≡ chunk_view xs rows begun spare
 seen_kept xs ys kept rows begun spare =
     let cells : map cells_of ys ≡ map cells_of xs = maps_same cells_of xs ys kept.count (λ number other inside. (kept.each number other inside).cells) in
     same_view (maps_same type_of xs ys kept.count (λ number other inside. (kept.each number other inside).ty)) (ap (λ cs. rows_of cs rows) cells) (ap (λ cs. row_at (take begun cs) rows) cells) refl

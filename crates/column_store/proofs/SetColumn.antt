@@ -7,7 +7,7 @@ use Rattle.value_types.specs.Views.{row_at}
 use Rattle.column_store.specs.ChunkView.{chunk_view}
 use Rattle.column_store.specs.declared.column.Column.{Column}
 use Rattle.column_store.specs.ColumnCells.{cells_of, room_of, type_of}
-use Rattle.column_store.specs.ColumnChanges.{EachColumn, KeepsCells}
+use Rattle.column_store.specs.ColumnChanges.{EachColumn, HasCells}
 use Rattle.column_store.specs.IsFilled.{IsFilled}
 use Rattle.column_store.proofs.ColumnLoops.{set_each}
 use Rattle.column_store.proofs.Filled.{same_view, seen_kept}
@@ -26,7 +26,7 @@ module _ (xs : List Column) (place : ℕ) (inside : place < length xs) {was : Co
   -- ---- it has the same cells
 
   pub seen_as_before : cells_of column ≡ cells_of was → (rows begun spare : ℕ) → chunk_view ys rows begun spare ≡ chunk_view xs rows begun spare
-  seen_as_before same = seen_kept xs ys (set_each KeepsCells (λ _. record { ty = refl; cells = refl; room = omega arith }) xs place was column at inside (record { ty = ty; cells = same; room = room }))
+  seen_as_before same = seen_kept xs ys (set_each HasCells (λ _. record { ty = refl; cells = refl }) xs place was column at inside (record { ty = ty; cells = same }))
 
   -- ---- it has a cell of the row under way, behind those of the finished rows
 
@@ -48,9 +48,9 @@ module _ (xs : List Column) (place : ℕ) (inside : place < length xs) {was : Co
       ];
       waiting = λ number other low within. ap (λ c. length (cells_of c)) (get_or-set_other xs place number column other (let apart : number ≢ place = omega (arith, low) in apart))
           ∙ filled.waiting number other (omega (arith, low)) (omega (arith, within, length-set xs place column));
-      roomy = λ number other within.
+      roomy = λ number other within some.
           let there : number < length xs = omega (arith, within, length-set xs place column) in
-          omega (arith, filled.roomy number other there, (first.each number other there).room);
+          omega (arith, filled.roomy number other there some, (first.each number other there).room);
       countable = filled.countable;
     }
 

@@ -7,6 +7,7 @@ use Rattle.value_types.specs.Datum.{Datum, typed, text}
 use Rattle.column_store.specs.declared.column.Column.{Column}
 use Rattle.column_store.specs.declared.column.Column.TheVariants as columns
 use Rattle.column_store.specs.Measured.{number_cells}
+use Rattle.column_store.specs.Numbers.{number_room}
 use Rattle.column_store.specs.Nullable.{datum_by, options, texts_or_null, room}
 
 abbrev pub type_of : Column → ColumnType
@@ -28,7 +29,7 @@ cells_of (columns.Varchar column) = map (datum_by text) (texts_or_null column)
 -- how many cells fit without more memory, the bytes of texts apart
 abbrev pub room_of : Column → ℕ
 room_of (columns.Boolean column) = room column
-room_of (columns.Bigint column) = room column.numbers
+room_of (columns.Bigint column) = number_room column.numbers
 room_of (columns.Date column) = room column
 room_of (columns.Time column) = room column
 room_of (columns.Timestamp column) = room column

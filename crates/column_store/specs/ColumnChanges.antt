@@ -15,6 +15,11 @@ pub record IsCut (rows : ℕ) (old new : Column) : Type 0 where
   pub cells : cells_of new ≡ take rows (cells_of old)
   pub room : room_of new ≡ room_of old
 
+-- only what the cells are kept in may have changed
+pub record HasCells (old new : Column) : Type 0 where
+  pub ty : type_of new ≡ type_of old
+  pub cells : cells_of new ≡ cells_of old
+
 -- only the memory may have grown
 pub record KeepsCells (old new : Column) : Type 0 where
   pub ty : type_of new ≡ type_of old

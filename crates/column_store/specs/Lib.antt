@@ -1,5 +1,6 @@
 pub mod TableView
 pub mod Nullable
+pub mod Numbers
 pub mod Measured
 pub mod ColumnCells
 pub mod RowsOfColumns

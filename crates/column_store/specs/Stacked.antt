@@ -30,6 +30,6 @@ HasAppended old new more = new ≡ record {
   spare = old.spare - length more;
 }
 
--- a chunk has got some rows in the place of spare ones
-abbrev pub HasAppendedSome : ChunkView → ChunkView → Type 0
-HasAppendedSome old new = (more : List (List Datum)) × (length more ≤ old.spare) × HasAppended old new more
+-- a chunk has got some rows, so many at most, in the place of spare ones
+abbrev pub HasAppendedSome : ℕ → ChunkView → ChunkView → Type 0
+HasAppendedSome most old new = (more : List (List Datum)) × (length more ≤ most) × HasAppended old new more

@@ -7,7 +7,7 @@ ghost use Rattle.column_store.specs.RowsOfColumns.{FitsColumn};
 ghost use Rattle.column_store.specs.TableView.{cell_of};
 
 mod fronts;
-mod measuring;
+mod packing;
 mod room;
 mod views;
 mod whole_rows;
@@ -18,6 +18,8 @@ use csv_source::NoMemory;
 use std::alloc::Global;
 use std::marker::Model;
 use value_types::{Cell, Types};
+
+pub(crate) use packing::FEW_ROWS;
 
 /// Rows in columns of their own. A row is appended cell by cell and then finished, or taken back.
 #[derive(Drop)]
@@ -115,8 +117,10 @@ impl Chunk {
         Ok(false)
     }
 
-    /// Keeps the first rows alone, and nothing of the row under way. Rows that go are spare again.
-    pub fn truncate(&mut self, rows: usize)
+    /// Keeps the first rows alone, and nothing of the row under way. Rows that go are spare again: so one has to be
+    /// spare, since then no column is packed.
+    pub(crate) fn truncate(&mut self, rows: usize)
+        requires { 1 ≤ self.old.spare }
         ensures { self.new ≡ record self.old { rows = take rows self.old.rows; unfinished = []; spare = self.old.spare + (length self.old.rows - rows) } }
     {
         let rows = rows.min(self.rows);

@@ -202,14 +202,16 @@ impl Column {
         }
     }
 
-    /// Takes the extent of a BIGINT column.
-    pub(crate) fn measure(&mut self)
+    /// Takes the extent of a BIGINT column, and where `many` keeps its numbers in as few bytes as they need.
+    pub(crate) fn pack(&mut self, alloc: Global, many: bool)
         ensures ty { type_of self.new ≡ type_of self.old }
         ensures value { cells_of self.new ≡ cells_of self.old }
-        ensures room { room_of self.new ≡ room_of self.old }
     {
         if let Column::Bigint(column) = self {
             column.measure();
+            if many {
+                column.pack(alloc);
+            }
         }
     }
 }

@@ -3,7 +3,7 @@ ghost use Rattle.std.specs.Prelude.{◌≡◌, ◌≤◌, ◌<◌, ◌+◌, ◌+
 ghost use Rattle.std.specs.List.{slice_index_or};
 ghost use Rattle.column_store.specs.declared.column.Column.{Column};
 ghost use Rattle.column_store.specs.ColumnCells.{cells_of, type_of};
-ghost use Rattle.column_store.specs.ColumnChanges.{EachColumn, IsAppended, IsCut, IsReserved, KeepsCells, KeepsFront};
+ghost use Rattle.column_store.specs.ColumnChanges.{EachColumn, HasCells, IsAppended, IsCut, IsReserved, KeepsCells, KeepsFront};
 
 use crate::column::Column;
 use csv_source::NoMemory;
@@ -42,12 +42,12 @@ pub(crate) fn cut_first(columns: &mut [Column], longer: usize, rows: usize)
     }
 }
 
-/// Takes the extent of each BIGINT column.
-pub(crate) fn measure(columns: &mut [Column])
-    ensures { EachColumn (λ _. KeepsCells) columns.old columns.new }
+/// Takes the extent of each BIGINT column, and where `many` keeps its numbers in as few bytes as they need.
+pub(crate) fn pack(columns: &mut [Column], alloc: Global, many: bool)
+    ensures { EachColumn (λ _. HasCells) columns.old columns.new }
 {
     for place in 0..columns.len() {
-        columns[place].measure();
+        columns[place].pack(alloc, many);
     }
 }
 

@@ -136,8 +136,18 @@ impl<T: Copy + Default> Nullable<T> {
             return Ok(false);
         };
         self.make_room(roomy)?;
-        self.values.push_reserved(value);
+        self.push_value(value);
         Ok(true)
+    }
+
+    /// Appends a value that isn't null, where there is room for it.
+    #[inline(always)]
+    pub(crate) fn push_value(&mut self, value: T)
+        requires { length (options self.old) < room self.old }
+        ensures value { options self.new ≡ options self.old ++ Some value ∷ [] }
+        ensures room { room self.new ≡ room self.old }
+    {
+        self.values.push_reserved(value);
     }
 
     pub(crate) fn append(&mut self, other: &Nullable<T>) -> Result<(), NoMemory>

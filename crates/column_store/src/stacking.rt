@@ -42,7 +42,7 @@ pub(crate) fn append_each(into: &mut Chunk, earlier: &[Chunk], last: &Chunk) -> 
     requires into_whole { into.old.unfinished ≡ [] }
     requires room { length (rows_in earlier.now ++ last.now.rows) ≤ into.old.spare }
     ensures ok { OnOk result (HasAppended into.old into.new (rows_in earlier.now ++ last.now.rows)) }
-    ensures err { OnErr result (HasAppendedSome into.old into.new) }
+    ensures err { OnErr result (HasAppendedSome (length (rows_in earlier.now ++ last.now.rows)) into.old into.new) }
 {
     for chunk in earlier {
         into.append(chunk)?;

@@ -49,12 +49,11 @@ impl Table {
         })
     }
 
-    /// The table of a chunk's rows, without a copy. Its extents are taken here, by the thread that has just filled it.
-    pub fn from_chunk(alloc: Global, mut chunk: Chunk) -> Table
+    /// The table of a chunk's rows, without a copy.
+    pub fn from_chunk(alloc: Global, chunk: Chunk) -> Table
         requires { chunk.unfinished ≡ [] }
         ensures { result ≡ record { types = chunk.types; rows = chunk.rows; spare = chunk.spare } }
     {
-        chunk.measure();
         // Its rows and the spare ones can be counted together.
         let _ = chunk.spare();
         Table {
@@ -121,7 +120,11 @@ impl Table {
         ensures err { OnErr result (self.new.rows ≡ self.old.rows) }
         ensures err_spare { OnErr result (self.old.spare ≤ self.new.spare) }
     {
-        self.reserve_rows(other.rows())?;
+        let Some(more) = other.rows().checked_add(1) else {
+            return Err(NoMemory);
+        };
+        // One row more, so that one is spare until all are there.
+        self.reserve_rows(more)?;
         let rows = self.last.rows();
         match append_each(&mut self.last, &other.earlier, &other.last) {
             Ok(()) => Ok(()),

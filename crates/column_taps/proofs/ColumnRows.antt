@@ -13,6 +13,7 @@ use Rattle.value_types.specs.declared.views.ColumnView.{ColumnView}
 use Rattle.value_types.specs.declared.views.ColumnView.TheVariants as views
 use Rattle.value_types.specs.Extent.{extent_with}
 use Rattle.value_types.specs.Marked.{marked}
+use Rattle.value_types.specs.Packed.{numbers_in}
 use Rattle.value_types.specs.Views.{row_at, view_cells, view_rows, nulls_in, HasRows}
 use Rattle.value_types.specs.declared.extent.Extent.{Extent}
 use Rattle.column_taps.specs.declared.width.Width.{Width}
@@ -62,7 +63,7 @@ module _ {A : Type 0} (cell : A → Datum) where
 
 view_long : (n : ℕ) (view : ColumnView) → HasRows n view → n ≤ length (view_cells view)
 view_long n (views.Boolean nulls column) long = marked_long (λ b. typed (values.Bool b)) n nulls.now column.now long
-view_long n (views.Bigint column) long = marked_long (λ z. typed (values.Int z)) n column.nulls.now column.values.now long
+view_long n (views.Bigint column) long = marked_long (λ z. typed (values.Int z)) n column.nulls.now (numbers_in column.values) long
 view_long n (views.Date nulls column) long = marked_long (λ z. typed (values.Date z)) n nulls.now column.now long
 view_long n (views.Time nulls column) long = marked_long (λ z. typed (values.Time z)) n nulls.now column.now long
 view_long n (views.Timestamp nulls column) long = marked_long (λ z. typed (values.Stamp z)) n nulls.now column.now long
@@ -70,7 +71,7 @@ view_long n (views.Varchar nulls column) long = marked_long text n nulls.now col
 
 pub filled_by_marks : (n : ℕ) (view : ColumnView) → HasRows n view → count_by is_filled (take n (view_cells view)) + count_by (λ mark. mark) (take n (nulls_in view)) ≡ n
 filled_by_marks n (views.Boolean nulls column) long = count_marked (λ b. typed (values.Bool b)) n nulls.now column.now (λ b. refl) long
-filled_by_marks n (views.Bigint column) long = count_marked (λ z. typed (values.Int z)) n column.nulls.now column.values.now (λ z. refl) long
+filled_by_marks n (views.Bigint column) long = count_marked (λ z. typed (values.Int z)) n column.nulls.now (numbers_in column.values) (λ z. refl) long
 filled_by_marks n (views.Date nulls column) long = count_marked (λ z. typed (values.Date z)) n nulls.now column.now (λ z. refl) long
 filled_by_marks n (views.Time nulls column) long = count_marked (λ z. typed (values.Time z)) n nulls.now column.now (λ z. refl) long
 filled_by_marks n (views.Timestamp nulls column) long = count_marked (λ z. typed (values.Stamp z)) n nulls.now column.now (λ z. refl) long
@@ -95,7 +96,7 @@ not_a_text cell width none n nulls values = sym (fold_marked cell width_with wid
 
 pub no_texts : (width : Option Width) (n : ℕ) (view : ColumnView) → ((nulls : Bor (List Bool)) (texts : Bor (List (List ℕ))) → view ≢ views.Varchar nulls texts) → width ≡ fold width_with width (take n (view_cells view))
 no_texts width n (views.Boolean nulls column) no_varchar = not_a_text (λ b. typed (values.Bool b)) width (λ b. refl) n nulls.now column.now
-no_texts width n (views.Bigint column) no_varchar = not_a_text (λ z. typed (values.Int z)) width (λ z. refl) n column.nulls.now column.values.now
+no_texts width n (views.Bigint column) no_varchar = not_a_text (λ z. typed (values.Int z)) width (λ z. refl) n column.nulls.now (numbers_in column.values)
 no_texts width n (views.Date nulls column) no_varchar = not_a_text (λ z. typed (values.Date z)) width (λ z. refl) n nulls.now column.now
 no_texts width n (views.Time nulls column) no_varchar = not_a_text (λ z. typed (values.Time z)) width (λ z. refl) n nulls.now column.now
 no_texts width n (views.Timestamp nulls column) no_varchar = not_a_text (λ z. typed (values.Stamp z)) width (λ z. refl) n nulls.now column.now

@@ -9,6 +9,7 @@ use Rattle.value_types.specs.declared.types.Value.TheVariants as values
 use Rattle.value_types.specs.declared.views.ColumnView.{ColumnView}
 use Rattle.value_types.specs.declared.views.ColumnView.TheVariants as views
 use Rattle.value_types.specs.Marked.{marked}
+use Rattle.value_types.specs.Packed.{numbers_in}
 use Rattle.value_types.specs.Views.{row_at, rows_from, view_cells, view_rows, HasRows}
 use Rattle.column_taps.specs.declared.text_columns.TextColumn.{TextColumn}
 use Rattle.column_taps.specs.Pairs.{Pair, pairs_and_cell, pairs_with}
@@ -54,7 +55,7 @@ no_text cell place pairs none (suc row) (b ∷ nulls) (v ∷ values) = no_text c
 
 one_column : (row place : ℕ) (pairs : List Pair) (column : ColumnView) → pairs_and_cell place pairs (get_or (view_cells column) row null) ≡ pairs_with_texts row pairs (as_texts place column)
 one_column row place pairs (views.Boolean nulls column) = no_text (λ b. typed (values.Bool b)) place pairs (λ b. refl) row nulls.now column.now
-one_column row place pairs (views.Bigint column) = no_text (λ z. typed (values.Int z)) place pairs (λ z. refl) row column.nulls.now column.values.now
+one_column row place pairs (views.Bigint column) = no_text (λ z. typed (values.Int z)) place pairs (λ z. refl) row column.nulls.now (numbers_in column.values)
 one_column row place pairs (views.Date nulls column) = no_text (λ z. typed (values.Date z)) place pairs (λ z. refl) row nulls.now column.now
 one_column row place pairs (views.Time nulls column) = no_text (λ z. typed (values.Time z)) place pairs (λ z. refl) row nulls.now column.now
 one_column row place pairs (views.Timestamp nulls column) = no_text (λ z. typed (values.Stamp z)) place pairs (λ z. refl) row nulls.now column.now

@@ -39,6 +39,10 @@ plain_front cell zero values = refl
 plain_front cell (suc n) [] = refl
 plain_front cell (suc n) (v ∷ values) = ap (λ cells. cell v ∷ cells) (plain_front cell n values)
 
+pub unmarked : (nulls : List Bool) → length nulls ≡ 0 → nulls ≡ []
+unmarked [] none = refl
+unmarked (n ∷ nulls) none = absurd (let no : ⊥ = omega (arith, none) in no)
+
 -- the first values of a column that has no mark
 pub fold_plain : {A S : Type 0} (cell : A → Datum) (add : S → Datum → S) (s : S) (n : ℕ) (nulls : List Bool) (values front : List A) → nulls ≡ [] → front ≡ take n values
     → fold add s (map cell front) ≡ fold add s (take n (marked cell nulls values))

@@ -5,7 +5,9 @@ ghost use Rattle.value_types.specs.declared.types.Value.TheVariants as kinds;
 ghost use Rattle.value_types.specs.Datum.{null, typed};
 ghost use Rattle.value_types.specs.Marked.{bigint_cells};
 ghost use Rattle.value_types.specs.Extent.{extent_of, extent_with};
+ghost use Rattle.value_types.specs.Packed.{numbers_in};
 
+use crate::bigint_view::NumbersView;
 use crate::extent::{Extent, taking_in};
 use crate::views::{is_marked, number_at};
 
@@ -60,13 +62,13 @@ fn extent_of_plain(numbers: &[i64]) -> Option<Extent>
 }
 
 /// The extent of the first numbers of a column, each of which may be null.
-fn extent_of_marked(rows: usize, nulls: &[bool], numbers: &[i64]) -> Option<Extent>
-    requires { rows ≤ length numbers.now }
-    ensures { result ≡ extent_of rows (bigint_cells nulls.now numbers.now) }
+pub(crate) fn extent_of_marked(rows: usize, nulls: &[bool], numbers: NumbersView<'_>) -> Option<Extent>
+    requires { rows ≤ length (numbers_in numbers) }
+    ensures { result ≡ extent_of rows (bigint_cells nulls.now (numbers_in numbers.entry)) }
 {
     let mut extent = None;
     for row in 0..rows {
-        extent = with_number(extent, is_marked(nulls, row), number_at(numbers, row));
+        extent = with_number(extent, is_marked(nulls, row), numbers.get(row));
     }
     extent
 }
@@ -79,5 +81,5 @@ pub fn extent_of(rows: usize, nulls: &[bool], numbers: &[i64]) -> Option<Extent>
     if nulls.is_empty() {
         return extent_of_plain(&numbers[..rows]);
     }
-    extent_of_marked(rows, nulls, numbers)
+    extent_of_marked(rows, nulls, NumbersView::Wide(numbers))
 }

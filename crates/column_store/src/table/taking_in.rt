@@ -1,12 +1,9 @@
 // Tables that are taken in, with as few chunks as their rows need.
 ghost use Rattle.std.specs.Prelude.{◌≡◌, ◌-◌, ◌++◌, [], length, OnErr, OnOk};
 
-use crate::chunk::Chunk;
+use crate::chunk::{Chunk, FEW_ROWS};
 use crate::table::Table;
 use csv_source::NoMemory;
-
-/// In a chunk of no more rows than these, a column's lists take a good part of the memory that its cells do.
-const FEW_ROWS: usize = 64;
 
 /// Whether rows and those behind them are few together.
 fn are_few(rows: usize, more: usize) -> bool {

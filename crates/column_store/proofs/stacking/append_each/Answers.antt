@@ -9,4 +9,4 @@ pub returns-in_err-append-clause-err : goal.returns-in_err-append-clause-err
 returns-in_err-append-clause-err c =
     let front = take c.loop-chunk.chunk-index c.args.earlier.now in
     on_err c.from_residual.result
-    (rows_in front, omega (arith, rows_in_front c.loop-chunk.chunk-index c.args.earlier.now, length-append (rows_in c.args.earlier.now) c.args.last.now.rows, c.requires.room), c.in_err-append.ensures.err ∙ c.loop-chunk.invariant)
+    (rows_in front, omega (arith, rows_in_front c.loop-chunk.chunk-index c.args.earlier.now, length-append (rows_in c.args.earlier.now) c.args.last.now.rows), c.in_err-append.ensures.err ∙ c.loop-chunk.invariant)

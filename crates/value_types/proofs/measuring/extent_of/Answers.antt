@@ -1,13 +1,9 @@
-use Rattle.std.proofs.Common.{◌≡◌, List, [], ◌∷◌, Bool, length, refl, ◌∙◌, arith, None}
+use Rattle.std.proofs.Common.{◌≡◌, length, refl, ◌∙◌, arith, None}
 use Rattle.value_types.specs.declared.types.Value.TheVariants as values
 use Rattle.value_types.specs.Datum.{typed}
 use Rattle.value_types.specs.Extent.{extent_with}
-use Rattle.value_types.proofs.MarkedSteps.{fold_plain}
+use Rattle.value_types.proofs.MarkedSteps.{fold_plain, unmarked}
 use Rattle.value_types.proofs.measuring.extent_of.Goals as goal
-
-unmarked : (nulls : List Bool) → length nulls ≡ 0 → nulls ≡ []
-unmarked [] none = refl
-unmarked (n ∷ nulls) none = absurd (let no : ⊥ = omega (arith, none) in no)
 
 pub returns-then-is_empty : goal.returns-then-is_empty
 returns-then-is_empty c =

@@ -6,7 +6,7 @@ use Rattle.column_store.specs.ColumnCells.{cells_of}
 use Rattle.column_store.specs.ColumnChanges.{EachColumn, IsAppended, KeepsCells}
 use Rattle.column_store.specs.IsFilled.{IsFilled}
 use Rattle.column_store.proofs.AppendedRows.{all_full, filled_appended, seen_appended}
-use Rattle.column_store.proofs.Filled.{on_err, seen_kept}
+use Rattle.column_store.proofs.Filled.{cells_kept, on_err, seen_kept}
 use Rattle.column_store.proofs.chunk.Chunk.append.Goals as goal
 
 pub append-requires-clause-full : goal.append-requires-clause-full
@@ -17,7 +17,7 @@ pub returns-in_err-append-clause-err : goal.returns-in_err-append-clause-err
 returns-in_err-append-clause-err c =
     let s = c.self.inside in
     let ys = c.append.new.columns in
-    let kept : EachColumn (λ _. KeepsCells) s.columns.items ys = subst (λ cs. EachColumn (λ _. KeepsCells) cs ys) c.deref_mut.ensures.value c.in_err-append.ensures.err in
+    let kept = cells_kept s.columns.items ys (subst (λ cs. EachColumn (λ _. KeepsCells) cs ys) c.deref_mut.ensures.value c.in_err-append.ensures.err) in
     on_err c.from_residual.result
     (ap (λ cs. chunk_view cs s.rows s.begun s.spare) (with_items_is s.columns ys (omega (arith, kept.count))) ∙ seen_kept s.columns.items ys kept s.rows s.begun s.spare ∙ c.self.view_is)
 

@@ -2,7 +2,8 @@ use Rattle.std.proofs.Common.{arith}
 use Rattle.std.proofs.lemmas.List.{length-map}
 use Rattle.value_types.specs.declared.types.Value.TheVariants as values
 use Rattle.value_types.specs.Datum.{typed, text}
-use Rattle.column_store.specs.Nullable.{datum_by, options}
+use Rattle.column_store.specs.Nullable.{datum_by}
+use Rattle.column_store.specs.Numbers.{number_options}
 use Rattle.column_store.proofs.ViewCells.{cells_are, all_long}
 use Rattle.column_store.proofs.chunk.views.view_of.Goals as goal
 
@@ -16,7 +17,7 @@ pub returns-in-Bigint-clause-cells : goal.returns-in-Bigint-clause-cells
 returns-in-Bigint-clause-cells c = rw c.in-Bigint.is c.view.ensures.cells
 
 pub returns-in-Bigint-clause-long : goal.returns-in-Bigint-clause-long
-returns-in-Bigint-clause-long c = rw c.in-Bigint.is (omega (arith, c.view.ensures.fits, length-map (options c.in-Bigint.column.numbers) (datum_by (λ n. typed (values.Int n)))))
+returns-in-Bigint-clause-long c = rw c.in-Bigint.is (omega (arith, c.view.ensures.fits, length-map (number_options c.in-Bigint.column.numbers) (datum_by (λ n. typed (values.Int n)))))
 
 pub returns-in-Date-clause-cells : goal.returns-in-Date-clause-cells
 returns-in-Date-clause-cells c = rw c.in-Date.is (cells_are (λ n. typed (values.Date n)) c.in-Date.column.nulls.items c.in-Date.column.values.items _ _ c.nulls-in-Date.ensures c.values-in-Date.ensures)

@@ -3,6 +3,7 @@ use Rattle.std.specs.List.{fold}
 use Rattle.value_types.specs.Extent.{extent_with, widened}
 use Rattle.value_types.specs.Marked.{bigint_cells}
 use Rattle.value_types.specs.Views.{view_cells}
+use Rattle.value_types.specs.Packed.{numbers_in}
 use Rattle.value_types.proofs.ExtentSteps.{fold-widened}
 use Rattle.column_taps.proofs.ColumnRows.{no_numbers}
 use Rattle.column_taps.proofs.span.ExtentKnown.with_all.Goals as goal
@@ -12,7 +13,7 @@ returns-in-Bigint c =
     let view = c.in-Bigint.column in
     let extent = c.args.extent in
     let rows = c.args.rows in
-    c.widened.ensures ∙ ap (widened extent) c.extent.ensures ∙ fold-widened extent (take rows (bigint_cells view.nulls.now view.values.now))
+    c.widened.ensures ∙ ap (widened extent) c.extent.ensures ∙ fold-widened extent (take rows (bigint_cells view.nulls.now (numbers_in view.values)))
     ∙ sym (ap (λ view. fold extent_with extent (take rows (view_cells view))) c.in-Bigint.is)
 
 pub returns-in_default : goal.returns-in_default
