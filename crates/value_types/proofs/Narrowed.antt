@@ -1,12 +1,12 @@
 -- Numbers as what they have over the least one.
-use Rattle.std.proofs.Common.{◌≡◌, ℕ, ℤ, ◌+◌, ◌<◌, ◌≤◌, List, [], ◌∷◌, ◌++◌, Some, map, take, pos, negsuc, ◌+ℤ◌, ◌-ℤ◌, ◌≤ℤ◌, ◌<ℤ◌, sym, ap, ◌∙◌, subst, arith, to_z, of_z, to_z-of_z, w64, FitsSigned}
+use Rattle.std.proofs.Common.{◌≡◌, ℕ, ℤ, true, false, ◌+◌, ◌<◌, ◌≤◌, List, [], ◌∷◌, ◌++◌, Some, map, take, pos, negsuc, ◌+ℤ◌, ◌-ℤ◌, ◌≤ℤ◌, ◌<ℤ◌, sym, ap, ◌∙◌, subst, arith, to_z, of_z, to_z-of_z, w64, FitsSigned}
 use Rattle.std.specs.Prelude.{slice_get, All}
 use Rattle.std.specs.Int.{saturate_signed}
 use Rattle.std.proofs.lemmas.Int.{ints}
 use Rattle.std.proofs.lemmas.List.{map_push}
 use Rattle.std.proofs.lemmas.List.Elements.{All-weaker}
 use Rattle.jiff_core.proofs.SignedLemmas.{signed_arith}
-use lib.Signed.{mag}
+use lib.Signed.{mag, lt_z}
 use Rattle.value_types.specs.declared.extent.Extent.{Extent}
 use Rattle.value_types.specs.Packed.{number_over, IsWithin}
 use Rattle.value_types.proofs.CopySteps.{take-at}
@@ -56,16 +56,32 @@ numbers_more f numbers place xs ys x n so_far pushed is at =
 
 -- ---- how far numbers lie apart
 
-pub apart_below : (z : ℤ) (limit : ℕ) → limit ≤ 4294967296 → saturate_signed w64 z <ℤ pos limit → z <ℤ pos limit
+apart_below : (z : ℤ) (limit : ℕ) → limit ≤ 4294967296 → saturate_signed w64 z <ℤ pos limit → z <ℤ pos limit
 apart_below (pos n) limit small below = omega (arith, ints, below, small)
 apart_below (negsuc n) limit small below = omega (arith, ints)
 
-pub apart_from : (z : ℤ) → pos 4294967296 ≤ℤ saturate_signed w64 z → pos 4294967296 ≤ℤ z
+apart_from : (z : ℤ) → pos 4294967296 ≤ℤ saturate_signed w64 z → pos 4294967296 ≤ℤ z
 apart_from (pos n) from = omega (arith, ints, from)
 apart_from (negsuc n) from = absurd (let no : ⊥ = omega (arith, ints, from) in no)
 
-pub all_low : (extent : Extent) (numbers : List ℤ) → All (IsWithin extent) numbers → All (λ n. extent.least ≤ℤ n) numbers
-all_low extent numbers all = All-weaker (IsWithin extent) (λ n. extent.least ≤ℤ n) (λ n w. w.0) numbers all
+below : (a b : ℤ) → lt_z a b ≡ true → a <ℤ b
+below a b test = grind (arith, ints, test)
 
-pub all_high : (extent : Extent) (numbers : List ℤ) (limit : ℕ) → All (IsWithin extent) numbers → (extent.greatest -ℤ extent.least) <ℤ pos limit → All (λ n. n <ℤ (extent.least +ℤ pos limit)) numbers
-all_high extent numbers limit all below = All-weaker (IsWithin extent) (λ n. n <ℤ (extent.least +ℤ pos limit)) (λ n w. omega (arith, ints, w.1, below)) numbers all
+not_below : (a b : ℤ) → lt_z a b ≡ false → b ≤ℤ a
+not_below a b test = grind (arith, ints, test)
+
+-- the bounds of an extent and what lies between them, as the calls pass them
+module _ (extent : Extent) (l g span s : ℤ) (is_l : l ≡ extent.least) (is_g : g ≡ extent.greatest) (is_s : s ≡ span) (is : span ≡ saturate_signed w64 (g -ℤ l)) where
+  between : s ≡ saturate_signed w64 (extent.greatest -ℤ extent.least)
+  between = is_s ∙ is ∙ (λ i. saturate_signed w64 (is_g i -ℤ is_l i))
+
+  pub all_low : (numbers : List ℤ) → All (IsWithin extent) numbers → All (λ n. l ≤ℤ n) numbers
+  all_low numbers all = subst (λ (z : ℤ). All (λ n. z ≤ℤ n) numbers) (sym is_l) (All-weaker (IsWithin extent) (λ n. extent.least ≤ℤ n) (λ n w. w.0) numbers all)
+
+  pub all_high : (numbers : List ℤ) (limit : ℕ) → limit ≤ 4294967296 → All (IsWithin extent) numbers → lt_z s (pos limit) ≡ true → All (λ n. n <ℤ (l +ℤ pos limit)) numbers
+  all_high numbers limit small all test =
+      let few : (extent.greatest -ℤ extent.least) <ℤ pos limit = apart_below (extent.greatest -ℤ extent.least) limit small (subst (λ (z : ℤ). z <ℤ pos limit) between (below s (pos limit) test)) in
+      subst (λ (z : ℤ). All (λ n. n <ℤ (z +ℤ pos limit)) numbers) (sym is_l) (All-weaker (IsWithin extent) (λ n. n <ℤ (extent.least +ℤ pos limit)) (λ n w. omega (arith, ints, w.1, few)) numbers all)
+
+  pub far_apart : lt_z s (pos 4294967296) ≡ false → pos 4294967296 ≤ℤ (extent.greatest -ℤ extent.least)
+  far_apart test = apart_from (extent.greatest -ℤ extent.least) (subst (λ (z : ℤ). pos 4294967296 ≤ℤ z) between (not_below s (pos 4294967296) test))

@@ -1,4 +1,4 @@
-use Rattle.std.proofs.Common.{◌≡◌, length, refl, ◌∙◌, arith}
+use Rattle.std.proofs.Common.{◌≡◌, length, ap, ◌∙◌, arith}
 use Rattle.value_types.specs.Extent.{extent_of}
 use Rattle.value_types.specs.Marked.{bigint_cells}
 use Rattle.value_types.specs.Packed.{numbers_in}
@@ -11,3 +11,11 @@ returns-then-is_empty c =
     let view = c.args.self.now in
     let none : length view.nulls.now ≡ 0 = grind (arith, c.if-is_empty.ensures) in
     values_within c.args.rows view.nulls.now (numbers_in view.values) c.extent.result (unmarked view.nulls.now none) (omega (arith, c.requires)) c.extent.ensures
+
+pub returns : goal.returns
+returns c =
+    let view = c.args.self.now in
+    let rows = c.args.rows in
+    let whole = c.new.result in
+    values_within rows whole.nulls.now (numbers_in view.values) c.extent-2.result c.new.ensures.nulls (omega (arith, c.requires))
+    (c.extent-2.ensures ∙ ap (λ numbers. extent_of rows (bigint_cells whole.nulls.now (numbers_in numbers))) c.new.ensures.value)
