@@ -7,8 +7,8 @@ use Rattle.column_store.specs.Nullable.{datum_by}
 use Rattle.column_store.specs.Numbers.{number_options}
 use Rattle.column_store.proofs.bigints.Bigints.measure.Goals as goal
 
-pub extent-requires : goal.extent-requires
-extent-requires c = omega (arith, c.len-count.ensures, c.view.ensures.fits)
+pub extent-self-requires : goal.extent-self-requires
+extent-self-requires c = omega (arith, c.len-count.ensures, c.view.ensures.fits)
 
 pub invariant_of-self : goal.invariant_of-self
 invariant_of-self c =
@@ -16,6 +16,6 @@ invariant_of-self c =
     record {
       exact = record {
         within = omega (arith, c.len-count.ensures, length-map (number_options n) (datum_by (λ n. typed (values.Int n))));
-        exact = c.extent.ensures ∙ ap (extent_of c.len-count.result) c.view.ensures.cells;
+        exact = c.extent-self.ensures ∙ ap (extent_of c.len-count.result) c.view.ensures.cells;
       };
     }

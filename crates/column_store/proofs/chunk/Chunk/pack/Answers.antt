@@ -1,7 +1,8 @@
-use Rattle.std.proofs.Common.{◌≡◌, ◌∙◌, ap, arith, subst}
+use Rattle.std.proofs.Common.{◌∙◌, ap, arith, subst, sym}
 use Rattle.std.proofs.lemmas.List.{with_items_is}
 use Rattle.column_store.specs.ChunkView.{chunk_view}
 use Rattle.column_store.specs.ColumnChanges.{EachColumn, HasCells}
+use Rattle.column_store.specs.IsFilled.{IsFilled}
 use Rattle.column_store.proofs.Filled.{filled_packed, seen_kept}
 use Rattle.column_store.proofs.chunk.Chunk.pack.Goals as goal
 
@@ -10,7 +11,7 @@ invariant_of-self c =
     let s = c.self.inside in
     let ys = c.pack.new.columns in
     let kept : EachColumn (λ _. HasCells) s.columns.items ys = subst (λ cs. EachColumn (λ _. HasCells) cs ys) c.deref_mut.ensures.value c.pack.ensures in
-    filled_packed c.self.invariant ys kept
+    subst (λ cs. IsFilled cs s.rows s.begun 0) (sym (with_items_is s.columns ys (omega (arith, kept.count)))) (filled_packed c.self.invariant ys kept)
 
 pub returns : goal.returns
 returns c =
