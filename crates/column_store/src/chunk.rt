@@ -15,11 +15,10 @@ mod whole_rows;
 use crate::column::Column;
 use crate::columns;
 use csv_source::NoMemory;
+pub(crate) use packing::FEW_ROWS;
 use std::alloc::Global;
 use std::marker::Model;
 use value_types::{Cell, Types};
-
-pub(crate) use packing::FEW_ROWS;
 
 /// Rows in columns of their own. A row is appended cell by cell and then finished, or taken back.
 #[derive(Drop)]

@@ -140,7 +140,12 @@ impl Numbers {
         ensures { number_options self.new ≡ number_options self.old }
     {
         if let Numbers::Wide(column) = self {
-            if let Ok(Some(packed)) = PackedNumbers::of(alloc, extent, column.nulls(), column.values()) {
+            if let Ok(Some(packed)) = PackedNumbers::of(
+                alloc,
+                extent,
+                column.nulls(),
+                column.values(),
+            ) {
                 *self = Numbers::Packed(packed);
             }
         }

@@ -62,7 +62,11 @@ fn extent_of_plain(numbers: &[i64]) -> Option<Extent>
 }
 
 /// The extent of the first numbers of a column, each of which may be null.
-pub(crate) fn extent_of_marked(rows: usize, nulls: &[bool], numbers: NumbersView<'_>) -> Option<Extent>
+pub(crate) fn extent_of_marked(
+    rows: usize,
+    nulls: &[bool],
+    numbers: NumbersView<'_>,
+) -> Option<Extent>
     requires { rows ≤ length (numbers_in numbers) }
     ensures { result ≡ extent_of rows (bigint_cells nulls.now (numbers_in numbers.entry)) }
 {
