@@ -4,7 +4,7 @@ use Rattle.value_types.specs.Packed.{packed_numbers}
 use Rattle.column_store.specs.declared.numbers.Numbers.{Numbers}
 use Rattle.column_store.specs.declared.numbers.Numbers.TheVariants as numbers
 use Rattle.column_store.specs.declared.packed_numbers.PackedNumbers.{PackedNumbers}
-use Rattle.column_store.specs.Nullable.{options, options_of, room}
+use Rattle.column_store.specs.Nullable.{options_of, room}
 
 -- the marks of the first numbers
 abbrev pub marks_in : Numbers → List Bool

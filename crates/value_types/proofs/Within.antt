@@ -1,5 +1,5 @@
 -- Numbers lie within their extent.
-use Rattle.std.proofs.Common.{◌≡◌, ℕ, ℤ, ◌≤◌, Bool, List, [], ◌∷◌, Option, Some, None, length, map, refl, sym, ◌∙◌, arith}
+use Rattle.std.proofs.Common.{◌≡◌, ℕ, ℤ, ◌≤◌, Bool, List, [], ◌∷◌, Option, Some, None, length, map, sym, ◌∙◌, arith}
 use Rattle.std.specs.Prelude.{All, IfSome, ◌≤ℤ◌}
 use Rattle.std.specs.Int.{int_min, int_max}
 use Rattle.std.specs.List.{fold}

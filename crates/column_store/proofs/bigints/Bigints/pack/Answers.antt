@@ -1,4 +1,4 @@
-use Rattle.std.proofs.Common.{◌∙◌, arith, map, subst, sym}
+use Rattle.std.proofs.Common.{arith, map, subst, sym}
 use Rattle.std.specs.Prelude.{All}
 use Rattle.value_types.specs.declared.types.Value.TheVariants as values
 use Rattle.value_types.specs.Datum.{typed}

@@ -1,4 +1,4 @@
-use Rattle.std.proofs.Common.{◌∙◌, ap, arith, length}
+use Rattle.std.proofs.Common.{ap, arith, length}
 use Rattle.column_store.proofs.packed_numbers.PackedNumbers.widened.Goals as goal
 
 pub push_all-requires : goal.push_all-requires
