@@ -108,6 +108,7 @@ module _ (o : Options) (sample : List ℕ) (whole : Bool) (accepted : IsAccepted
     max_input = accepted.max_input;
     threads = accepted.threads;
     range_size = accepted.range_size;
+    size = accepted.size;
     table = accepted.table;
     varchar_and_types = of_types (λ ts. (o.all_varchar && not (is_empty ts)) ≡ false) (λ fixes. and_left _ _ (free fixes).0) accepted.varchar_and_types;
     types_twice = of_types (λ ts. (not (is_empty o.column_types.names) && not (is_empty ts)) ≡ false) (λ fixes. and_left _ _ (not_from_true _ (free fixes).1)) accepted.types_twice;
