@@ -13,7 +13,7 @@ use csv_source::{ReadStop, Source};
 use part_cuts::{Cuts, MOST_BYTES};
 
 /// How many bytes are read at once.
-const PIECE: u64 = 1_048_576;
+const PIECE: u64 = 262_144;
 
 /// How many bytes behind those that go through are seen.
 const SEEN: usize = 2;
