@@ -1,5 +1,5 @@
 #!/usr/bin/env python3
-"""The databases that crates/database_tests makes, by another program: database_images.py [FOLDER]
+"""The databases that crates/part_tests makes, by another program: database_images.py [FOLDER]
 
 Lays out the same rows by SQLite's "Database File Format", asks sqlite3 for integrity_check and for the rows, and prints
 the length and the SHA-256 of each file. With a folder the files are kept there.

@@ -1,0 +1,10 @@
+use Rattle.std.proofs.Common.{◌≡◌, ◌+◌, All}
+use Rattle.claim_board.specs.declared.drawer.Drawer.{Drawer}
+use Rattle.core_tests.proofs.tests.claim_board_orders.split_off.Given as goal
+
+abbrev pub invariant-loop-turn : goal.invariant-loop-turn
+invariant-loop-turn l = record {
+  first : l.first.board ≡ l.board;
+  left : l.first.splits + l._turn ≡ 63;
+  others : All (λ (d : Drawer). d.board ≡ l.board) l.others.items;
+}

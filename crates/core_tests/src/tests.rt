@@ -1,0 +1,17 @@
+mod byte_classes_searches;
+mod chain_words_links;
+mod claim_board_orders;
+mod contexts;
+mod crew_contexts;
+mod dialects;
+mod load_crew_groups;
+mod part_cuts_parts;
+mod pipe_load_stages;
+mod pipe_load_windows;
+mod quote_automaton_states;
+mod range_guess_cuts;
+mod range_scan_parts;
+mod reject_book_verdicts;
+mod row_fields_rows;
+mod window_load_data;
+mod window_load_windows;

@@ -1,3 +1,0 @@
-mod images;
-mod rows;
-mod written;

@@ -1,0 +1,14 @@
+mod column_store_chunks;
+mod column_store_fronts;
+mod column_store_rows;
+mod column_taps_feeding;
+mod csv_source_calls;
+mod db_writer_images;
+mod db_writer_rows;
+mod db_writer_written;
+mod dialect_rank_candidates;
+mod file_list_files;
+mod load_options_limits;
+mod load_options_words;
+mod text_pieces_rowed;
+mod words;

@@ -1,8 +1,0 @@
-use Rattle.std.proofs.Common.{sym, refl, subst, arith}
-use Rattle.chain_words.specs.Laws.{Keeps}
-use Rattle.chain_words.proofs.Ready.{still_ready}
-use Rattle.scan_tests.proofs.tests.chain_words_links.walker.Walker.join.Goals as goal
-
-pub returns-clause-ready : goal.returns-clause-ready
-returns-clause-ready c = still_ready _ _ _ _ _ c.requires.ready c.join.ensures.same
-    (subst (Keeps c.args.self.now.link.view) (sym c.join.ensures.value) (record { plan = refl; next = omega arith; has_duty = refl; duty = refl }))
