@@ -58,7 +58,7 @@ all_views columns n now past is = is ∙ ap (map cells_of) (take_all n columns p
 
 -- ---- the rows of a chunk
 
-fewer : (n m : ℕ) (view : ColumnView) → n ≤ m → HasRows m view → HasRows n view
+pub fewer : (n m : ℕ) (view : ColumnView) → n ≤ m → HasRows m view → HasRows n view
 fewer n m (views.Boolean nulls column) less long = omega (arith, less, long)
 fewer n m (views.Bigint column) less long = omega (arith, less, long)
 fewer n m (views.Date nulls column) less long = omega (arith, less, long)

@@ -1,4 +1,5 @@
 pub mod TableView
+pub mod ViewTypes
 pub mod Nullable
 pub mod Numbers
 pub mod Measured

@@ -54,6 +54,18 @@ impl Chunk {
         })
     }
 
+    /// A chunk of no columns and no rows, which takes no memory.
+    pub(crate) fn none(alloc: Global) -> Chunk
+        ensures { result ≡ record { types = []; rows = []; unfinished = []; spare = 0 } }
+    {
+        Chunk {
+            columns: Vec::new(alloc),
+            rows: 0,
+            begun: 0,
+            spare: 0,
+        }
+    }
+
     /// How many rows are finished.
     pub fn rows(&self) -> usize
         ensures { result ≡ length self.now.rows }

@@ -23,4 +23,4 @@ mod table;
 mod unwrapping;
 
 pub use chunk::Chunk;
-pub use table::Table;
+pub use table::{Front, Table};

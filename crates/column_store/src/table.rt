@@ -6,11 +6,13 @@ ghost use Rattle.column_store.specs.RowsOfColumns.{HasNoTexts};
 ghost use Rattle.column_store.specs.Stacked.{rows_in};
 ghost use Rattle.column_store.specs.TableView.{cell_of};
 
+mod opening;
 mod taking_in;
 
 use crate::chunk::Chunk;
 use crate::stacking::{append_each, append_ends, chunk_of, rows_before};
 use csv_source::NoMemory;
+pub use opening::Front;
 use std::alloc::Global;
 use std::marker::Model;
 use std::mem;

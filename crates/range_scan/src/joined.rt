@@ -1,6 +1,8 @@
 //! What ranges that follow one another come to.
 ghost use Rattle.std.specs.Prelude.{◌≡◌, IfOk, OnOk};
 
+mod growing;
+
 use crate::appending::{append_book, sum_of};
 use crate::context::Context;
 use crate::part::Part;

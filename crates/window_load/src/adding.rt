@@ -5,6 +5,7 @@ ghost use Rattle.range_guess.specs.Span.{IsSpanOf, opening_in};
 ghost use Rattle.range_scan.specs.Ranges.{AddsSpan};
 ghost use Rattle.window_load.specs.Ranges.{begins_behind};
 
+use crate::groups::is_wide;
 use crate::window::InputWindow;
 use byte_classes::Dialect;
 use csv_source::{Gate, NoMemory};
@@ -45,6 +46,10 @@ pub fn add_range<G: Gate>(
     };
     let state = joined.end;
     let first = scanner.opening(&view, span, state);
+    if sure && is_wide(scanner.context) {
+        joined.scan_next(scanner, &view, span, first)?;
+        return Ok(true);
+    }
     let kept = scanner.scan(CALLER, &view, span, first)?;
     let part = scanner.part_in(&view, span, state, Some(kept))?;
     if !sure && !has_row_behind(&scanner.context.dialect, window, span, part.end()) {

@@ -10,6 +10,7 @@ ghost use Rattle.window_load.specs.Reads.{Reads, stop_in};
 use crate::adding::add_range;
 use crate::course::Course;
 use crate::data_read::{DataRead, WindowRead};
+use crate::groups::is_wide;
 use crate::reject::first_reject;
 use crate::stop::LoadStop;
 use crate::window::InputWindow;
@@ -66,12 +67,15 @@ pub fn read_ranges<S: Source, G: Gate>(
 {
     let (alloc, context) = (scanner.alloc, scanner.context);
     let most = context.schema.max_line_size;
+    // A row of so many columns may reach far.
+    let wide = is_wide(context);
     let mut joined = Joined::new(alloc, context, State::RowStart)?;
     let mut at = 0;
     let mut number = 0;
     let mut far = false;
     loop {
-        let line = if far { most } else { most.min(NEAR) };
+        let long = far || wide;
+        let line = if long { most } else { most.min(NEAR) };
         window.fill_to(source, at + range_reach(course.range_size, line))?;
         if at == window.len() {
             let length = window.reach() - course.start;
@@ -82,7 +86,7 @@ pub fn read_ranges<S: Source, G: Gate>(
             scanner.gate.claimed(CALLER, number);
         }
         let span = span_in(at, window.len(), course.range_size, number);
-        let sure = far || window.ended();
+        let sure = long || window.ended();
         if !add_range(scanner, &mut joined, window, &span, sure)? {
             far = true;
             continue;

@@ -1,7 +1,9 @@
 // The columns of a chunk, seen by slices.
-ghost use Rattle.std.specs.Prelude.{◌≡◌, length, map, All, IfOk};
+ghost use Rattle.std.specs.Prelude.{◌≡◌, ◌<◌, length, map, slice_get, take, All, IfOk, Some};
 ghost use Rattle.value_types.specs.Views.{view_cells, view_rows, HasRows};
-ghost use Rattle.column_store.specs.ColumnCells.{cells_of};
+ghost use Rattle.column_store.specs.ColumnCells.{cells_of, type_of};
+ghost use Rattle.column_store.specs.TableView.{column_of};
+ghost use Rattle.column_store.specs.ViewTypes.{type_of_view};
 
 use crate::chunk::Chunk;
 use crate::column::Column;
@@ -13,6 +15,7 @@ use value_types::ColumnView;
 fn view_of(column: &Column) -> ColumnView<'_>
     ensures cells { view_cells result ≡ cells_of column.now }
     ensures long { HasRows (length (cells_of column.now)) result }
+    ensures ty { type_of_view result ≡ type_of column.now }
 {
     match column {
         Column::Boolean(column) => ColumnView::Boolean(column.nulls(), column.values()),
@@ -45,5 +48,15 @@ impl Chunk {
     {
         let views = views_of(alloc, &self.columns)?;
         Ok(views)
+    }
+
+    /// A column, in which the cells of the finished rows come first.
+    pub fn view(&self, column: usize) -> ColumnView<'_>
+        requires { column < length self.now.types }
+        ensures cells { take (length self.now.rows) (view_cells result) ≡ column_of self.now.rows column }
+        ensures long { HasRows (length self.now.rows) result }
+        ensures ty { slice_get self.now.types column ≡ Some (type_of_view result) }
+    {
+        view_of(&self.columns[column])
     }
 }

@@ -11,6 +11,11 @@ fn are_few(rows: usize, more: usize) -> bool {
 }
 
 impl Table {
+    /// Whether the last chunk has few rows, also with so many more.
+    pub fn has_few_with(&self, more: usize) -> bool {
+        are_few(self.last.rows(), more)
+    }
+
     /// Appends copies of the rows of a chunk to the last one.
     fn append_chunk(&mut self, chunk: &Chunk) -> Result<(), NoMemory>
         requires types { self.old.types ≡ chunk.now.types }

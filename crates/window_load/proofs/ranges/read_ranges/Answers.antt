@@ -12,7 +12,7 @@ use Rattle.window_load.proofs.ReadSteps.{reads_none, reads_short, answers_on, dr
 use Rattle.window_load.proofs.RangesRead.{IsUpToRange, read_none, read_more, read_all, read_in_next, read_stopped, in_window, enough_in, are_types, is_keep}
 use Rattle.window_load.proofs.WindowSteps.{at_within, at_below}
 use Rattle.reject_book.specs.declared.book.Keep.TheVariants.{First}
-use Rattle.window_load.proofs.ranges.read_ranges.Goals.{else-course-via-then-course+else-len-gt0, else-course-via-else-course, then-far, else-far, then-far-2, else-far-2}
+use Rattle.window_load.proofs.ranges.read_ranges.Goals.{else-course-via-then-course+else-len-gt0, else-course-via-else-course, then-long, else-long, then-long-2, else-long-2}
 use Rattle.window_load.proofs.ranges.read_ranges.Goals as goal
 
 pub loop-far-init : goal.loop-far-init
@@ -79,7 +79,7 @@ returns-then-at-len-clause-ok g c =
     let so_far = read_more c.args.scanner.now.context.now c.args.course c.requires.some (g.S.Source.left c.args.source.now) c.args.window.now (g.S.Source.left c.loop-far.source) c.loop-far.window
     c.loop-far.number c.loop-far.at c.loop-far.joined c.loop-far.invariant.up_to (g.S.Source.left c.fill_to.new.source) c.fill_to.new.self
     c.fill_to.ensures.moved c.fill_to.ensures.same.0 c.fill_to.ensures.same.1 c.fill_to.ensures.stays in
-    let line = c.if-far.line in
+    let line = c.if-long.line in
     let filled : IsFilled (c.loop-far.at + range_reach c.args.course.range_size line) c.fill_to.new.self =
     subst (λ n. IsFilled (c.loop-far.at + n) c.fill_to.new.self) c.range_reach.ensures c.in_ok-fill_to.ensures.ok in
     subst (λ (d : DataRead). IsReadInWindows c.args.scanner.now.context.now c.args.course (g.S.Source.left c.args.source.now) (g.S.Source.left c.fill_to.new.source) c.args.window.now c.fill_to.new.self (reads.All d)) (sym c.of-read.ensures)
@@ -91,7 +91,7 @@ returns-then-len-gt0-clause-ok g c =
     let so_far = read_more c.args.scanner.now.context.now c.args.course c.requires.some (g.S.Source.left c.args.source.now) c.args.window.now (g.S.Source.left c.loop-far.source) c.loop-far.window
     c.loop-far.number c.loop-far.at c.loop-far.joined c.loop-far.invariant.up_to (g.S.Source.left c.fill_to.new.source) c.fill_to.new.self
     c.fill_to.ensures.moved c.fill_to.ensures.same.0 c.fill_to.ensures.same.1 c.fill_to.ensures.stays in
-    let line = c.if-far.line in
+    let line = c.if-long.line in
     let filled : IsFilled (c.loop-far.at + range_reach c.args.course.range_size line) c.fill_to.new.self =
     subst (λ n. IsFilled (c.loop-far.at + n) c.fill_to.new.self) c.range_reach.ensures c.in_ok-fill_to.ensures.ok in
     let there : c.loop-far.at < length c.fill_to.new.self.kept = at_below c.loop-far.at c.len.result (length c.fill_to.new.self.kept) c.if-at-len.false c.len.ensures
@@ -99,16 +99,16 @@ returns-then-len-gt0-clause-ok g c =
     let adds = in_window c.args.scanner.now.context.now c.fill_to.new.self.kept c.fill_to.new.self.base c.span_in-span.result
     c.loop-far.at c.len-in-loop-far.result c.args.course.range_size c.loop-far.number c.loop-far.joined c.add_range.new.joined
     c.span_in-span.ensures c.len-in-loop-far.ensures (c.in_ok-add_range.ensures.ok c.if-not-branch.false) in
-    let long : c.loop-far.far ≡ true → c.args.scanner.now.context.now.schema.max_line_size ≤ line = elim c.if-far.branch as (λ _. c.loop-far.far ≡ true → c.args.scanner.now.context.now.schema.max_line_size ≤ line) [
-      | then-far v ↦ (λ told. omega (arith, v.line-is))
-      | else-far v ↦ (λ told. absurd (let wrong : ⊥ = (let off = v.if-far.false in cc) in wrong))
+    let long : c.if-far.long ≡ true → c.args.scanner.now.context.now.schema.max_line_size ≤ line = elim c.if-long.branch as (λ _. c.if-far.long ≡ true → c.args.scanner.now.context.now.schema.max_line_size ≤ line) [
+      | then-long v ↦ (λ told. omega (arith, v.line-is))
+      | else-long v ↦ (λ told. absurd (let wrong : ⊥ = (let off = v.if-long.false in cc) in wrong))
     ] in
-    let sure_if : c.if-far-2.sure ≡ true → (c.loop-far.far ≡ true) ⊎ (c.fill_to.new.self.ended ≡ true) = elim c.if-far-2.branch as (λ _. c.if-far-2.sure ≡ true → (c.loop-far.far ≡ true) ⊎ (c.fill_to.new.self.ended ≡ true)) [
-      | then-far-2 v ↦ (λ told. inl v.if-far-2.true)
-      | else-far-2 v ↦ (λ told. inr (sym v.ended-sure.ensures ∙ sym v.sure-is ∙ told))
+    let sure_if : c.if-long-2.sure ≡ true → (c.if-far.long ≡ true) ⊎ (c.fill_to.new.self.ended ≡ true) = elim c.if-long-2.branch as (λ _. c.if-long-2.sure ≡ true → (c.if-far.long ≡ true) ⊎ (c.fill_to.new.self.ended ≡ true)) [
+      | then-long-2 v ↦ (λ told. inl v.if-long-2.true)
+      | else-long-2 v ↦ (λ told. inr (sym v.ended-sure.ensures ∙ sym v.sure-is ∙ told))
     ] in
     let enough = enough_in c.args.scanner.now.context.now c.fill_to.new.self c.span_in-span.result c.loop-far.at c.len-in-loop-far.result c.args.course.range_size c.loop-far.number c.loop-far.joined.end
-    line c.loop-far.far c.if-far-2.sure c.span_in-span.ensures c.len-in-loop-far.ensures long sure_if (c.in_ok-add_range.ensures.value c.if-not-branch.false) in
+    line c.if-far.long c.if-long-2.sure c.span_in-span.ensures c.len-in-loop-far.ensures long sure_if (c.in_ok-add_range.ensures.value c.if-not-branch.false) in
     read_stopped c.args.scanner.now.context.now c.args.course c.requires.some (g.S.Source.left c.args.source.now) c.args.window.now (g.S.Source.left c.fill_to.new.source) c.fill_to.new.self c.loop-far.number c.loop-far.at c.loop-far.joined so_far line filled there enough c.add_range.new.joined adds c.if-course.true (c.requires.keep c.if-course.true) (omega (arith, c.if-len-gt0.true, c.len-then-course.ensures)) c.in_ok-reject.reject c.in_ok-reject.ensures.ok
 
 pub loop-far-preserved : goal.loop-far-preserved
@@ -116,7 +116,7 @@ loop-far-preserved g c =
     let so_far = read_more c.args.scanner.now.context.now c.args.course c.requires.some (g.S.Source.left c.args.source.now) c.args.window.now (g.S.Source.left c.loop-far.source) c.loop-far.window
     c.loop-far.number c.loop-far.at c.loop-far.joined c.loop-far.invariant.up_to (g.S.Source.left c.fill_to.new.source) c.fill_to.new.self
     c.fill_to.ensures.moved c.fill_to.ensures.same.0 c.fill_to.ensures.same.1 c.fill_to.ensures.stays in
-    let line = c.if-far.line in
+    let line = c.if-long.line in
     let filled : IsFilled (c.loop-far.at + range_reach c.args.course.range_size line) c.fill_to.new.self =
     subst (λ n. IsFilled (c.loop-far.at + n) c.fill_to.new.self) c.range_reach.ensures c.in_ok-fill_to.ensures.ok in
     let there : c.loop-far.at < length c.fill_to.new.self.kept = at_below c.loop-far.at c.len.result (length c.fill_to.new.self.kept) c.if-at-len.false c.len.ensures
@@ -124,16 +124,16 @@ loop-far-preserved g c =
     let adds = in_window c.args.scanner.now.context.now c.fill_to.new.self.kept c.fill_to.new.self.base c.span_in-span.result
     c.loop-far.at c.len-in-loop-far.result c.args.course.range_size c.loop-far.number c.loop-far.joined c.add_range.new.joined
     c.span_in-span.ensures c.len-in-loop-far.ensures (c.in_ok-add_range.ensures.ok c.if-not-branch.false) in
-    let long : c.loop-far.far ≡ true → c.args.scanner.now.context.now.schema.max_line_size ≤ line = elim c.if-far.branch as (λ _. c.loop-far.far ≡ true → c.args.scanner.now.context.now.schema.max_line_size ≤ line) [
-      | then-far v ↦ (λ told. omega (arith, v.line-is))
-      | else-far v ↦ (λ told. absurd (let wrong : ⊥ = (let off = v.if-far.false in cc) in wrong))
+    let long : c.if-far.long ≡ true → c.args.scanner.now.context.now.schema.max_line_size ≤ line = elim c.if-long.branch as (λ _. c.if-far.long ≡ true → c.args.scanner.now.context.now.schema.max_line_size ≤ line) [
+      | then-long v ↦ (λ told. omega (arith, v.line-is))
+      | else-long v ↦ (λ told. absurd (let wrong : ⊥ = (let off = v.if-long.false in cc) in wrong))
     ] in
-    let sure_if : c.if-far-2.sure ≡ true → (c.loop-far.far ≡ true) ⊎ (c.fill_to.new.self.ended ≡ true) = elim c.if-far-2.branch as (λ _. c.if-far-2.sure ≡ true → (c.loop-far.far ≡ true) ⊎ (c.fill_to.new.self.ended ≡ true)) [
-      | then-far-2 v ↦ (λ told. inl v.if-far-2.true)
-      | else-far-2 v ↦ (λ told. inr (sym v.ended-sure.ensures ∙ sym v.sure-is ∙ told))
+    let sure_if : c.if-long-2.sure ≡ true → (c.if-far.long ≡ true) ⊎ (c.fill_to.new.self.ended ≡ true) = elim c.if-long-2.branch as (λ _. c.if-long-2.sure ≡ true → (c.if-far.long ≡ true) ⊎ (c.fill_to.new.self.ended ≡ true)) [
+      | then-long-2 v ↦ (λ told. inl v.if-long-2.true)
+      | else-long-2 v ↦ (λ told. inr (sym v.ended-sure.ensures ∙ sym v.sure-is ∙ told))
     ] in
     let enough = enough_in c.args.scanner.now.context.now c.fill_to.new.self c.span_in-span.result c.loop-far.at c.len-in-loop-far.result c.args.course.range_size c.loop-far.number c.loop-far.joined.end
-    line c.loop-far.far c.if-far-2.sure c.span_in-span.ensures c.len-in-loop-far.ensures long sure_if (c.in_ok-add_range.ensures.value c.if-not-branch.false) in
+    line c.if-far.long c.if-long-2.sure c.span_in-span.ensures c.len-in-loop-far.ensures long sure_if (c.in_ok-add_range.ensures.value c.if-not-branch.false) in
     let good : c.args.course.stop ≡ true → (c.args.scanner.now.context.now.keep ≡ First 1) × (length c.add_range.new.joined.book.stored ≤ 0) =
     λ stops. (
       c.requires.keep stops,

@@ -1,4 +1,4 @@
-use Rattle.std.proofs.Common.{◌∙◌, ◌+◌, ◌++◌, ◌∷◌, [], ap, arith, length, sym, take}
+use Rattle.std.proofs.Common.{◌∙◌, ◌++◌, ◌∷◌, [], ap, arith, length, sym, take}
 use Rattle.std.proofs.lemmas.List.{append_assoc, length-append, length-take, take_all}
 use Rattle.value_types.proofs.CopySteps.{take-at}
 use Rattle.column_store.specs.Nullable.{options}
