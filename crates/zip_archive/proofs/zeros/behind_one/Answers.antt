@@ -1,0 +1,9 @@
+use Rattle.std.proofs.Common.{refl, arith}
+use Rattle.zip_archive.specs.Crc.{bit_step, zeros}
+use Rattle.zip_archive.specs.declared.tables.TheConstants.{BEHIND_ONE}
+use Rattle.zip_archive.proofs.TableEntries.{entry-at}
+use Rattle.zip_archive.proofs.zeros.behind_one.Goals as goal
+
+pub returns : goal.returns
+unfolding bit_step zeros
+returns c = entry-at 2 BEHIND_ONE c.args.byte refl (omega arith)
