@@ -76,7 +76,7 @@ fn push_taken(said: &mut Line, word: &str, allowed: Allowed) {
         Allowed::Truth => "true or false",
         Allowed::Text | Allowed::Names | Allowed::Types | Allowed::ColumnTypes => "another text",
         Allowed::Nulls => "texts, cut at each comma; nullstr= gives the empty one alone",
-        Allowed::Format => "csv or sqlite",
+        Allowed::Format => "csv, sqlite or npz",
         Allowed::TableName => {
             "a name of {} to {} bytes that isn't reject_scans or reject_errors and doesn't begin with sqlite_"
         }

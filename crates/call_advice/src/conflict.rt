@@ -8,10 +8,11 @@ use person_line::Part::{Number, Text, Word};
 fn other_format(command: &str, format: &str) -> &'static str {
     match (command, format) {
         ("batch", _) => {
-            "batch writes no CSV: it prints its report, or a database with to=sqlite"
+            "batch writes no CSV: it prints its report, a database with to=sqlite, or arrays with to=npz"
         }
-        ("rejects", _) => "rejects writes no other format than its CSV",
+        ("profile" | "rejects", _) => "{} writes no other format than its CSV",
         (_, "csv") => "{} writes no CSV: convert does",
+        (_, "npz") => "{} writes no arrays: convert and batch do",
         _ => "{} writes no database: convert and batch do",
     }
 }

@@ -33,5 +33,5 @@ pub use pasted::{most_kept, push_pasted};
 pub use read_fault::push_read_fault;
 pub use reading_words::{WordsFault, read_words};
 pub use refusal::push_refusal;
-pub use rejects_call::push_too_many_faults;
+pub use rejects_call::{push_lister, push_too_many_faults};
 pub use seen::SeenFile;

@@ -24,8 +24,8 @@ pub fn most_kept(words: &[String]) -> usize {
     match command_word(words) {
         "sniff" if gives(words, "explain", "true") => usize::MAX,
         "split" => PARTS,
-        "convert" if gives(words, "to", "sqlite") => 0,
-        "batch" | "convert" | "load" | "sniff" | "summary" => FRONT,
+        "convert" if gives(words, "to", "sqlite") || gives(words, "to", "npz") => 0,
+        "batch" | "convert" | "load" | "profile" | "sniff" | "summary" => FRONT,
         _ => 0,
     }
 }

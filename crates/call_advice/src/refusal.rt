@@ -22,7 +22,7 @@ fn push_bad_command(said: &mut Line, word: &str) {
     let template = match word {
         "-v" => "'-v' is no command: -V or version is meant",
         _ => {
-            "'{}' is no command: load, summary, convert, rejects, batch, sniff, split and make are (see csvload --help)"
+            "'{}' is no command: load, summary, profile, convert, rejects, batch, sniff, split and make are (see csvload --help)"
         }
     };
     said.say(template, &[Word(word)]);
@@ -41,7 +41,7 @@ pub fn push_refusal<R: Files>(rt: &R, said: &mut Line, words: &[String], fault: 
     let command = command_word(words);
     match fault.rule {
         WordRule::NoCommand => said.push(
-            "a command is wanted: load, summary, convert, rejects, batch, sniff, split or make (see csvload --help)",
+            "a command is wanted: load, summary, profile, convert, rejects, batch, sniff, split or make (see csvload --help)",
         ),
         WordRule::BadCommand => push_bad_command(said, word),
         WordRule::NoFile => said.say(wanted_behind(command), &[Text(command)]),

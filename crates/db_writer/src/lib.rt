@@ -4,7 +4,8 @@
 //! DuckDB's manual, `reject_scans` and `reject_errors`. Its text is one function of what was loaded: a header's page, the
 //! pages of each table, and those of the list of tables (SQLite, "Database File Format"). Blocks of 8,192 rows begin a
 //! page of their own, so that workers write groups of blocks side by side, and what each wrote is a piece of the text.
-//! For users of the library: `write_database` of `Contents`.
+//! For users of the library: `write_database` of `Contents`; `names_apart`, `newline_bytes` and `truth_text` serve other writers
+//! of the same columns and rejects.
 #![tactic(auto)]
 
 mod contents;
@@ -19,3 +20,5 @@ mod rows;
 
 pub use contents::Contents;
 pub use database::write_database;
+pub use naming::names_apart;
+pub use rejects::{newline_bytes, truth_text};

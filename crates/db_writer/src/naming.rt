@@ -1,7 +1,7 @@
-// The names of columns in a database.
-ghost use Rattle.std.specs.Prelude.{◌≡◌, IfOk, OnOk};
+// Names made different without ASCII case, and those of columns in a database.
+ghost use Rattle.std.specs.Prelude.{◌≡◌, [], map, IfOk, OnOk};
 ghost use Rattle.csv_sniffer.specs.ColumnNames.{first_free, with_number};
-ghost use Rattle.db_writer.specs.Naming.{NumbersAreTaken, clean_name, database_names, folded, is_taken};
+ghost use Rattle.db_writer.specs.Naming.{NumbersAreTaken, clean_name, database_names, folded, is_taken, names_apart};
 
 use csv_source::NoMemory;
 use std::alloc::Global;
@@ -75,19 +75,39 @@ fn first_free(
     Ok(name)
 }
 
-/// The names of columns, made different without ASCII case. Names that are taken are found by a hash, and so is the number up to
-/// which a name is known to be taken.
-pub(crate) fn database_names(alloc: Global, names: &Names) -> Result<Names, NoMemory>
-    ensures { IfOk result (λ made. made ≡ database_names names.now) }
+/// Names made different without ASCII case, from left to right. Names that are taken are found by a hash, and so is the number up
+/// to which a name is known to be taken.
+pub fn names_apart(alloc: Global, names: &Names) -> Result<Names, NoMemory>
+    ensures { IfOk result (λ made. made ≡ names_apart [] names.now) }
 {
     let mut made = Names::new(alloc);
     let mut taken = HashSet::new(alloc);
     let mut numbers = HashMap::new(alloc);
     for column in 0..names.len() {
-        let wanted = clean_name(alloc, names.get(column))?;
+        let wanted = names.get(column).to_vec(alloc)?;
         let name = first_free(alloc, &taken, &mut numbers, column, wanted)?;
         taken.insert(folded(alloc, &name)?)?;
         made.push(&name)?;
     }
     Ok(made)
+}
+
+/// Names with each NUL byte as `_`.
+fn clean_names(alloc: Global, names: &Names) -> Result<Names, NoMemory>
+    ensures { IfOk result (λ made. made ≡ map clean_name names.now) }
+{
+    let mut made = Names::new(alloc);
+    for column in 0..names.len() {
+        let clean = clean_name(alloc, names.get(column))?;
+        made.push(&clean)?;
+    }
+    Ok(made)
+}
+
+/// The names of columns in a database.
+pub(crate) fn database_names(alloc: Global, names: &Names) -> Result<Names, NoMemory>
+    ensures { IfOk result (λ made. made ≡ database_names names.now) }
+{
+    let clean = clean_names(alloc, names)?;
+    names_apart(alloc, &clean)
 }

@@ -13,7 +13,7 @@ use file_list::FileBook;
 use reject_book::{Book, Reject};
 
 /// The bytes of a line end, or what stands in their place.
-fn newline_bytes(newline: Newline) -> &'static [u8]
+pub fn newline_bytes(newline: Newline) -> &'static [u8]
     ensures { result.now ≡ newline_bytes newline }
 {
     match newline {
@@ -26,7 +26,7 @@ fn newline_bytes(newline: Newline) -> &'static [u8]
 }
 
 /// The text of a truth value.
-fn truth_text(truth: bool) -> &'static [u8]
+pub fn truth_text(truth: bool) -> &'static [u8]
     ensures { result.now ≡ truth_text truth }
 {
     match truth {

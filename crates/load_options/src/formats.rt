@@ -1,6 +1,6 @@
 //! Words that give the format in which rows are written.
 ghost use Rattle.std.specs.Prelude.{◌≡◌};
-ghost use Rattle.load_options.specs.Formats.{format_named, is_sqlite, writes};
+ghost use Rattle.load_options.specs.Formats.{format_named, is_binary, is_npz, is_sqlite, writes};
 
 use crate::options::{Command, OutputFormat};
 
@@ -12,6 +12,8 @@ pub fn format_named(text: &[u8]) -> Option<OutputFormat>
         Some(OutputFormat::Csv)
     } else if text == b"sqlite".as_slice() {
         Some(OutputFormat::Sqlite)
+    } else if text == b"npz".as_slice() {
+        Some(OutputFormat::Npz)
     } else {
         None
     }
@@ -24,16 +26,31 @@ pub fn is_sqlite(format: Option<OutputFormat>) -> bool
     matches!(format, Some(OutputFormat::Sqlite))
 }
 
+/// Whether a format is that of NumPy's arrays.
+pub fn is_npz(format: Option<OutputFormat>) -> bool
+    ensures { result ≡ is_npz format }
+{
+    matches!(format, Some(OutputFormat::Npz))
+}
+
+/// Whether a format isn't text: nothing in it goes to a terminal.
+pub fn is_binary(format: Option<OutputFormat>) -> bool
+    ensures { result ≡ is_binary format }
+{
+    is_sqlite(format) || is_npz(format)
+}
+
 /// Whether a command writes a format.
 pub fn writes(command: Command, format: OutputFormat) -> bool
     ensures { result ≡ writes command format }
 {
     match command {
         Command::Convert => true,
-        Command::Batch => format == OutputFormat::Sqlite,
+        Command::Batch => format != OutputFormat::Csv,
         Command::Load
         | Command::Sniff
         | Command::Summary
+        | Command::Profile
         | Command::Rejects
         | Command::Make
         | Command::Split => false,

@@ -16,7 +16,7 @@ use Rattle.reject_book.specs.declared.reject.Reject.{Reject}
 use Rattle.reject_book.specs.Fields.{Field, fields_of}
 use Rattle.reject_book.specs.Fields as fields
 use Rattle.report_text.specs.declared.outcome.Mismatch.{Mismatch}
-use Rattle.report_text.specs.declared.outcome.Mismatch.TheVariants.{NoColumn, OtherHeader, TooManyColumns}
+use Rattle.report_text.specs.declared.outcome.Mismatch.TheVariants.{NoColumn, OtherHeader, TooManyColumns, LongName}
 use Rattle.report_text.specs.declared.outcome.Stats.{Stats}
 use Rattle.csv_source.specs.Shown.{shown, shown_option}
 
@@ -116,6 +116,9 @@ too_large_line limit = line_of (codes "fault" ∷ (codes "input over " ++ decima
 abbrev pub too_many_columns_line : ℕ → List ℕ
 too_many_columns_line limit = line_of (codes "fault" ∷ (codes "more than " ++ decimal limit ++ codes " columns") ∷ [])
 
+abbrev pub long_name_line : ℕ → ℕ → List ℕ
+long_name_line column most = line_of (codes "fault" ∷ (codes "name of column " ++ decimal column ++ codes " longer than " ++ decimal most ++ codes " bytes") ∷ [])
+
 abbrev pub no_column_line : List ℕ → List ℕ
 no_column_line name = line_of (codes "fault" ∷ (codes "no column " ++ shown name) ∷ [])
 
@@ -129,3 +132,4 @@ abbrev pub mismatch_line : Mismatch → List ℕ
 mismatch_line (NoColumn name names) = no_column_line name
 mismatch_line (OtherHeader file names) = other_header_line file
 mismatch_line (TooManyColumns limit) = too_many_columns_line limit
+mismatch_line (LongName column most) = long_name_line column most

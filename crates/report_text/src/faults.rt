@@ -1,6 +1,6 @@
 // The lines of requests that weren't done.
 ghost use Rattle.std.specs.Prelude.{◌≡◌, ◌++◌, OnOk};
-ghost use Rattle.report_text.specs.Lines.{mismatch_line, no_column_line, other_header_line, read_fault_line, refused_line, rule_name, too_large_line, too_many_columns_line, too_many_faults_line};
+ghost use Rattle.report_text.specs.Lines.{long_name_line, mismatch_line, no_column_line, other_header_line, read_fault_line, refused_line, rule_name, too_large_line, too_many_columns_line, too_many_faults_line};
 
 use crate::Mismatch;
 use crate::lines::{Part, push_line, push_number, push_plain};
@@ -64,6 +64,17 @@ fn push_too_many_columns(into: &mut Draft, limit: u64) -> Result<(), NoMemory>
     push_plain(into, b" columns\n")
 }
 
+/// Appends the line of a file with a column whose name takes over so many bytes.
+fn push_long_name(into: &mut Draft, column: u64, most: u64) -> Result<(), NoMemory>
+    ensures { OnOk result (into.new.text ≡ into.old.text ++ long_name_line column most) }
+{
+    push_plain(into, b"fault|name of column ")?;
+    push_number(into, column)?;
+    push_plain(into, b" longer than ")?;
+    push_number(into, most)?;
+    push_plain(into, b" bytes\n")
+}
+
 /// Appends the line of a file without a column of that name.
 fn push_no_column(into: &mut Draft, name: &[u8]) -> Result<(), NoMemory>
     ensures { OnOk result (into.new.text ≡ into.old.text ++ no_column_line name.now) }
@@ -90,6 +101,7 @@ pub(crate) fn push_mismatch(into: &mut Draft, mismatch: &Mismatch) -> Result<(),
         Mismatch::NoColumn(name, _names) => push_no_column(into, name.as_slice()),
         Mismatch::OtherHeader(file, _names) => push_other_header(into, file.as_slice()),
         Mismatch::TooManyColumns(limit) => push_too_many_columns(into, *limit),
+        Mismatch::LongName(column, most) => push_long_name(into, *column, *most),
     }
 }
 
