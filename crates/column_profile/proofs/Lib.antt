@@ -1,0 +1,14 @@
+pub mod MarkSteps
+pub mod SpanSteps
+pub mod ApartSteps
+pub mod KeySteps
+pub mod PartSteps
+pub mod TallySteps
+pub mod ProfileSteps
+pub mod LineSteps
+pub mod EachCell
+pub mod Counted
+pub mod SpanLaws
+pub mod LengthLaws
+pub mod ApartLaws
+pub mod Portions
