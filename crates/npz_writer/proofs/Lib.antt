@@ -1,0 +1,12 @@
+pub mod Unmarked
+pub mod ViewLengths
+pub mod Stored
+pub mod Parts
+pub mod TextSteps
+pub mod Runs
+pub mod WalkSteps
+pub mod Grown
+pub mod LongNames
+pub mod NullMarks
+pub mod SlotSteps
+pub mod Told

@@ -1,0 +1,12 @@
+pub mod Npy
+pub mod Arrays
+pub mod Blocks
+pub mod Walks
+pub mod Sheets
+pub mod Keys
+pub mod LongKeys
+pub mod Labels
+pub mod RejectSheets
+pub mod Marks
+pub mod Members
+pub mod Slots
