@@ -46,5 +46,10 @@ pub fn push_mismatch(said: &mut Line, words: &[String], mismatch: &Mismatch) {
             };
             said.say(template, &[subject, Number(*limit)]);
         }
+        Mismatch::LongName(column, most) => {
+            let template =
+                "{} can't be written as arrays: a name in their file takes {} bytes at most, and that of column {} (from 0) more; names= gives others";
+            said.say(template, &[subject, Number(*most), Number(*column)]);
+        }
     }
 }

@@ -2,7 +2,7 @@
 use crate::message::Run;
 use call_advice::{gives, is_given};
 use person_line::Line;
-use person_line::Part::Name;
+use person_line::Part::{Name, Text};
 use std::fs;
 use std::os::unix::fs::MetadataExt;
 use std::rt::Files;
@@ -33,15 +33,29 @@ pub fn push_emptied<R: Files>(rt: &R, said: &mut Line, run: Run<'_>) {
     }
 }
 
-/// That a report stands in a file where a database was wanted.
-pub fn push_no_database<R: Files>(rt: &R, said: &mut Line, words: &[String]) {
-    if gives(words, "to", "sqlite")
+/// What words want written that isn't text.
+fn wanted_of(words: &[String]) -> Option<&'static str> {
+    if gives(words, "to", "sqlite") {
+        Some("database")
+    } else if gives(words, "to", "npz") {
+        Some("arrays")
+    } else {
+        None
+    }
+}
+
+/// That a report stands in a file where a database or arrays were wanted.
+pub fn push_only_report<R: Files>(rt: &R, said: &mut Line, words: &[String]) {
+    if let Some(wanted) = wanted_of(words)
         && !is_given(words, "output")
         && let Ok(output) = fs::metadata(rt, STANDARD_OUTPUT)
         && output.is_file()
     {
         said.next_line();
-        said.push("standard output has the report, and no database; ");
+        said.say(
+            "standard output has the report, and no {}; ",
+            &[Text(wanted)],
+        );
         said.push("output=FILE leaves a file as it was");
     }
 }

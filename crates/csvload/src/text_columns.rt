@@ -1,4 +1,5 @@
-// The columns that the front of what was written tells: of a report by its lines, of a written table by its first line.
+// The columns that the front of what was written tells: of a report and of a profile by their lines, of a written table by its
+// first line.
 use call_advice::command_word;
 
 /// What begins the line of a column in a report.
@@ -32,10 +33,22 @@ fn name_in_table(text: &[u8], column: usize) -> Option<&str> {
     line.split(',').nth(column)
 }
 
+/// The name in the line of a column of a profile, where no name there is quoted.
+fn name_in_profile(text: &[u8], column: usize) -> Option<&str> {
+    // Before the columns stands one line.
+    let line = whole_line(text, column.saturating_add(1))?;
+    if line.contains('"') {
+        return None;
+    }
+    line.split(',').nth(1)
+}
+
 /// The name of the column of that number, from 0; none where what is known of the text doesn't tell it as it is.
 pub fn name_told<'a>(words: &[String], text: &'a [u8], column: usize) -> Option<&'a str> {
-    if command_word(words) == "convert" {
-        return name_in_table(text, column);
+    match command_word(words) {
+        "convert" => return name_in_table(text, column),
+        "profile" => return name_in_profile(text, column),
+        _ => {}
     }
     match column_line(text, column) {
         Some((_, name)) if !name.contains('\\') => Some(name),

@@ -38,9 +38,11 @@ module _ (o : Options) (s : Sniffed) (taps : List Seen) where
   unfolding databases.database
   whole_alike answers.Loaded batch stats = record { status = refl; text = refl }
   whole_alike answers.Summary batch stats = record { status = refl; text = refl }
+  whole_alike answers.Profile batch stats = record { status = refl; text = refl }
   whole_alike answers.Written batch stats = record { status = refl; text = refl }
   whole_alike answers.Rejects batch stats = record { status = refl; text = refl }
   whole_alike answers.Database batch stats = record { status = refl; text = refl }
+  whole_alike answers.Arrays batch stats = record { status = refl; text = refl }
   whole_alike answers.Batch batch stats = record { status = refl; text = refl }
 
   answered_alike : (answer : Answer) (load : Load) → IsSameReply (whole_or_error answer (fixed o s) (unhinted s) taps load) (whole_or_error answer o s taps load)

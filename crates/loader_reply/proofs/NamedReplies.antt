@@ -22,7 +22,7 @@ use Rattle.loader_reply.specs.declared.answering.Answer.TheVariants as answers
 use Rattle.loader_reply.specs.declared.batch.Load.{Load}
 use Rattle.loader_reply.specs.declared.batch.Load.TheVariants as loads
 use Rattle.loader_reply.specs.Batch.{found_in_first, load_of}
-use Rattle.loader_reply.specs.Fitting.{too_many_columns, too_many_faults}
+use Rattle.loader_reply.specs.Fitting.{misfit, too_many_faults}
 use Rattle.loader_reply.specs.Laws.{NamedHasSameReply}
 use Rattle.loader_reply.specs.Reply.{load_reply, unless_refused, whole_or_error, whole_reply}
 
@@ -30,9 +30,11 @@ module _ (o : Options) (types : List ColumnType) (s : Sniffed) (taps : List Seen
   whole_alike : (answer : Answer) (batch : BatchView) (stats : Stats) → whole_reply answer (listed o types) s taps batch stats ≡ whole_reply answer o s taps batch stats
   whole_alike answers.Loaded batch stats = refl
   whole_alike answers.Summary batch stats = refl
+  whole_alike answers.Profile batch stats = refl
   whole_alike answers.Written batch stats = refl
   whole_alike answers.Rejects batch stats = refl
   whole_alike answers.Database batch stats = refl
+  whole_alike answers.Arrays batch stats = refl
   whole_alike answers.Batch batch stats = refl
 
   answered_alike : (answer : Answer) (load : Load) → whole_or_error answer (listed o types) s taps load ≡ whole_or_error answer o s taps load
@@ -42,11 +44,11 @@ module _ (o : Options) (types : List ColumnType) (s : Sniffed) (taps : List Seen
 
   loaded_alike : (answer : Answer) (load : Load) → missing_name o.column_types s.names ≡ None → load_reply answer (listed o types) s taps load ≡ load_reply answer o s taps load
   loaded_alike answer load none =
-      let wide : Option Mismatch = too_many_columns answer s in
+      let unfit : Option Mismatch = misfit answer s in
       let faults : Option Outcome = option_map (λ bound. outcomes.TooManyFaults bound) (too_many_faults o.max_errors load) in
       let refused : Option Mismatch → Option Outcome = λ m. option_or (option_map (λ x. outcomes.Mismatch x) m) faults in
-      ap (λ r. unless_refused r (refused wide)) (answered_alike answer load)
-      ∙ ap (λ name. unless_refused (whole_or_error answer o s taps load) (refused (option_or (option_map (λ n. NoColumn n s.names) name) wide))) (sym none)
+      ap (λ r. unless_refused r (refused unfit)) (answered_alike answer load)
+      ∙ ap (λ name. unless_refused (whole_or_error answer o s taps load) (refused (option_or (option_map (λ n. NoColumn n s.names) name) unfit))) (sym none)
 
 listed_is_found : (o : Options) (input : List ℕ) (types : List ColumnType) → IsAccepted o → map (type_given o.column_types) (found o input).names ≡ map Some types →
     (found (listed o types) input).header ≡ (found o input).header → found (listed o types) input ≡ found o input

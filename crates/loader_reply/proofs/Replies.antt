@@ -1,13 +1,13 @@
 -- A reply, against what came of the files as they were opened.
 use Rattle.std.proofs.Common.{◌≡◌, ◌⊎◌, ℕ, Bool, true, false, cond, List, [], ◌∷◌, length, Option, None, Some, Ok, Err, refl, sym, ap, ◌∙◌, subst, inl, inr}
-use Rattle.std.specs.Prelude.{nat_lt, option_map, unwrap_or, ◌&&◌, ⊤}
+use Rattle.std.specs.Prelude.{nat_lt, option_map, unwrap_or, ⊤}
 use Rattle.std.specs.Bool.{then_some}
 use Rattle.std.specs.Option.{option_or}
 use Rattle.std.specs.List.{filter_map}
 use Rattle.csv_source.specs.Causes.{Rose}
 use Rattle.load_options.specs.declared.options.Command.{Command}
-use Rattle.load_options.specs.declared.options.Command.TheVariants.{Load as load_command, Sniff, Summary, Convert, Rejects, Batch, Make, Split}
-use Rattle.load_options.specs.Formats.{is_sqlite}
+use Rattle.load_options.specs.declared.options.Command.TheVariants.{Load as load_command, Sniff, Summary, Profile, Convert, Rejects, Batch, Make, Split}
+use Rattle.load_options.specs.Formats.{is_npz, is_sqlite}
 use Rattle.load_options.specs.declared.options.Options.{Options}
 use Rattle.load_options.specs.declared.options.Request.{Request}
 use Rattle.load_options.specs.declared.words.WordFault.{WordFault}
@@ -26,6 +26,7 @@ use Rattle.file_list.specs.BatchView.{BatchView}
 use Rattle.report_text.specs.MadeText.{made_text}
 use Rattle.report_text.specs.Printable.{IsPrintableBatch, IsPrintableLoad}
 use Rattle.report_text.specs.declared.outcome.Loaded.{Loaded}
+use Rattle.report_text.specs.declared.outcome.Mismatch.{Mismatch}
 use Rattle.report_text.specs.declared.outcome.Mismatch.TheVariants.{NoColumn, TooManyColumns}
 use Rattle.report_text.specs.declared.outcome.Outcome.{Outcome}
 use Rattle.report_text.specs.declared.outcome.Outcome.TheVariants as outcomes
@@ -36,15 +37,14 @@ use Rattle.loader_reply.specs.declared.answering.Answer.{Answer}
 use Rattle.loader_reply.specs.declared.answering.Answer.TheVariants as answers
 use Rattle.loader_reply.specs.declared.batch.Load.{Load}
 use Rattle.loader_reply.specs.declared.batch.Load.TheVariants as loads
-use Rattle.loader_reply.specs.declared.database.TheConstants.{COLUMN_LIMIT}
 use Rattle.loader_reply.specs.declared.ending.Ending.TheVariants as endings
 use Rattle.loader_reply.specs.declared.replying.Asked.{Asked}
 use Rattle.loader_reply.specs.declared.replying.Asked.TheVariants as asks
 use Rattle.loader_reply.specs.Batch.{batch_refusal, load_of, AreRead, IsLoadOf, IsOver, IsReadWhole, LacksOne}
 use Rattle.loader_reply.specs.Replying.{IsAnswer, IsReplyBy, IsReplyTo, IsStopReply, input_limit}
-use Rattle.loader_reply.specs.Databases.{is_too_wide}
-use Rattle.loader_reply.specs.Fitting.{is_database, is_of_one, no_column, refusal, too_many_columns, too_many_faults}
-use Rattle.loader_reply.specs.Reply.{Reply, reply, asked_by, asked_limit, asked_names, asked_reply, outcome_reply, inputs_reply, load_reply, loaded_of, without_spare, opened_reply, sniffed_outcome, sniffed_reply, split_reply, unless_refused, whole_or_error, whole_reply, words_names, words_reply}
+use Rattle.loader_reply.specs.Fitting.{is_of_one, misfit, no_column, refusal, too_many_faults}
+use Rattle.loader_reply.specs.Asking.{asked_by, asked_limit, asked_names}
+use Rattle.loader_reply.specs.Reply.{Reply, reply, asked_reply, outcome_reply, inputs_reply, load_reply, loaded_of, without_spare, opened_reply, sniffed_outcome, sniffed_reply, split_reply, unless_refused, whole_or_error, whole_reply, words_names, words_reply}
 use Rattle.loader_reply.specs.FurtherWords.{further_words}
 use Rattle.loader_reply.specs.Splitting.{cut_rule, lies_within, split_outcome, too_many_types}
 use Rattle.loader_reply.specs.SoFar.{Told}
@@ -55,9 +55,11 @@ use Rattle.loader_reply.proofs.FileSteps.{all_read, none_left, none_read, one_mo
 whole_answers : (answer : Answer) (o : Options) (s : Sniffed) (taps : List Seen) (batch : BatchView) (stats : Stats) → (whole_reply answer o s taps batch stats).status ≡ 0
 whole_answers answers.Loaded o s taps batch stats = refl
 whole_answers answers.Summary o s taps batch stats = refl
+whole_answers answers.Profile o s taps batch stats = refl
 whole_answers answers.Written o s taps batch stats = refl
 whole_answers answers.Rejects o s taps batch stats = refl
 whole_answers answers.Database o s taps batch stats = refl
+whole_answers answers.Arrays o s taps batch stats = refl
 whole_answers answers.Batch o s taps batch stats = refl
 
 refusal_answers : (answer : Answer) (o : Options) (s : Sniffed) (load : Load) (r : Reply) → IsAnswer r.status → IsAnswer (unless_refused r (refusal answer o s load)).status
@@ -66,14 +68,14 @@ refusal_answers answer o s load r is = by_name (missing_name o.column_types s.na
   by_bound None = is
   by_bound (Some bound) = inr (inr (inr (inr (inr refl))))
 
-  by_width : (t : Bool) → IsAnswer (unless_refused r (option_or (option_map (λ m. outcomes.Mismatch m) (then_some t (TooManyColumns COLUMN_LIMIT))) (option_map (λ n. outcomes.TooManyFaults n) (too_many_faults o.max_errors load)))).status
-  by_width true = inr (inr (inr (inl refl)))
-  by_width false = by_bound (too_many_faults o.max_errors load)
+  by_misfit : (m : Option Mismatch) → IsAnswer (unless_refused r (option_or (option_map (λ m. outcomes.Mismatch m) m) (option_map (λ n. outcomes.TooManyFaults n) (too_many_faults o.max_errors load)))).status
+  by_misfit None = by_bound (too_many_faults o.max_errors load)
+  by_misfit (Some mismatch) = inr (inr (inr (inl refl)))
 
   by_name : (name : Option (List ℕ)) →
-      IsAnswer (unless_refused r (option_or (option_map (λ m. outcomes.Mismatch m) (option_or (option_map (λ n. NoColumn n s.names) name) (too_many_columns answer s)))
+      IsAnswer (unless_refused r (option_or (option_map (λ m. outcomes.Mismatch m) (option_or (option_map (λ n. NoColumn n s.names) name) (misfit answer s)))
       (option_map (λ n. outcomes.TooManyFaults n) (too_many_faults o.max_errors load)))).status
-  by_name None = by_width (is_database answer && is_too_wide s)
+  by_name None = by_misfit (misfit answer s)
   by_name (Some name) = inr (inr (inr (inl refl)))
 
 load_answers : (answer : Answer) (o : Options) (s : Sniffed) (taps : List Seen) (load : Load) → IsAnswer (load_reply answer o s taps load).status
@@ -213,12 +215,14 @@ of_one o load_command = λ alone. refl
 of_one o Sniff = tt
 of_one o Split = tt
 of_one o Summary = λ alone. refl
+of_one o Profile = λ alone. refl
 of_one o Convert = λ alone. refl
 of_one o Rejects = λ alone. refl
-of_one o Batch = by_format (is_sqlite o.to) where
-  by_format : (t : Bool) → is_of_one (cond t answers.Database answers.Batch) ≡ true → true ≡ false
-  by_format true alone = sym alone
-  by_format false alone = sym alone
+of_one o Batch = by_format (is_sqlite o.to) (is_npz o.to) where
+  by_format : (t u : Bool) → is_of_one (cond t answers.Database (cond u answers.Arrays answers.Batch)) ≡ true → true ≡ false
+  by_format true u alone = sym alone
+  by_format false true alone = sym alone
+  by_format false false alone = sym alone
 of_one o Make = tt
 
 pub one_alone : (o : Options) (command : Command) (answer : Answer) (several : Bool) → asks.Loaded answer several ≡ asked_by o command → is_of_one answer ≡ true → several ≡ false

@@ -17,24 +17,39 @@ use Rattle.loader_reply.specs.declared.batch.Load.{Load}
 use Rattle.loader_reply.specs.declared.batch.Load.TheVariants as loads
 use Rattle.loader_reply.specs.declared.database.TheConstants.{COLUMN_LIMIT}
 use Rattle.loader_reply.specs.Batch.{HasFiles, IsPrintableFiles}
+use Rattle.loader_reply.specs.ArrayFiles.{long_name}
 use Rattle.loader_reply.specs.Databases.{is_too_wide}
 
 -- whether an answer is that of one file alone
 abbrev pub is_of_one : Answer → Bool
 is_of_one answers.Loaded = true
 is_of_one answers.Summary = true
+is_of_one answers.Profile = false
 is_of_one answers.Written = false
 is_of_one answers.Rejects = true
 is_of_one answers.Database = false
+is_of_one answers.Arrays = false
 is_of_one answers.Batch = false
 
 abbrev pub is_database : Answer → Bool
 is_database answers.Loaded = false
 is_database answers.Summary = false
+is_database answers.Profile = false
 is_database answers.Written = false
 is_database answers.Rejects = false
 is_database answers.Database = true
+is_database answers.Arrays = false
 is_database answers.Batch = false
+
+abbrev pub is_arrays : Answer → Bool
+is_arrays answers.Loaded = false
+is_arrays answers.Summary = false
+is_arrays answers.Profile = false
+is_arrays answers.Written = false
+is_arrays answers.Rejects = false
+is_arrays answers.Database = false
+is_arrays answers.Arrays = true
+is_arrays answers.Batch = false
 
 -- ---- what comes before an answer
 
@@ -46,9 +61,17 @@ no_column o s = option_map (λ name. NoColumn name s.names) (missing_name o.colu
 abbrev pub too_many_columns : Answer → Sniffed → Option Mismatch
 too_many_columns answer s = then_some (is_database answer && is_too_wide s) (TooManyColumns COLUMN_LIMIT)
 
+-- an archive of the answer can't have the name of a column that was found
+abbrev pub too_long_name : Answer → Sniffed → Option Mismatch
+too_long_name answer s = if is_arrays answer then long_name s else None
+
+-- what was found doesn't fit the format of the answer
+abbrev pub misfit : Answer → Sniffed → Option Mismatch
+misfit answer s = option_or (too_many_columns answer s) (too_long_name answer s)
+
 -- the words don't fit what was found
 abbrev pub mismatch : Answer → Options → Sniffed → Option Mismatch
-mismatch answer o s = option_or (no_column o s) (too_many_columns answer s)
+mismatch answer o s = option_or (no_column o s) (misfit answer s)
 
 -- the bound on faults, where there are more of them
 abbrev pub passed_bound : Option ℕ → ℕ → Option ℕ

@@ -1,5 +1,6 @@
 pub mod Batch
 pub mod Databases
+pub mod ArrayFiles
 pub mod Ending
 pub mod Laws
 pub mod Loading
@@ -7,6 +8,7 @@ pub mod Reading
 pub mod FurtherWords
 pub mod Splitting
 pub mod Fitting
+pub mod Asking
 pub mod Reply
 pub mod Replying
 pub mod ReplyText

@@ -1,15 +1,12 @@
 -- The reply to words: an ending with its status, and a text (this loader's profile).
-use Rattle.std.specs.Prelude.{◌≡◌, ℕ, if◌then◌else◌, List, [], ◌∷◌, map, option_map, Option, Some, None, unwrap_or, Result, Ok, Err, String, string_bytes, true, false}
+use Rattle.std.specs.Prelude.{◌≡◌, ℕ, if◌then◌else◌, List, [], ◌∷◌, map, option_map, Option, Some, None, unwrap_or, Result, Ok, Err, String, string_bytes, false}
 use Rattle.std.specs.Bool.{then_some}
 use Rattle.std.specs.List.{filter_map}
 use Rattle.std.specs.declared.alloc.Global.{Global}
 use Rattle.csv_source.specs.Files.{file_of}
-use Rattle.load_options.specs.declared.options.Command.{Command}
-use Rattle.load_options.specs.declared.options.Command.TheVariants.{Load, Sniff, Summary, Convert, Rejects, Batch, Make, Split}
 use Rattle.load_options.specs.declared.options.Options.{Options}
 use Rattle.load_options.specs.declared.options.Request.{Request}
 use Rattle.load_options.specs.declared.words.WordFault.{WordFault}
-use Rattle.load_options.specs.Formats.{is_sqlite}
 use Rattle.load_options.specs.Request.{read_words}
 use Rattle.load_options.specs.Texts.{word_at}
 use Rattle.csv_sniffer.specs.Explanation.{explanation}
@@ -31,8 +28,12 @@ use Rattle.report_text.specs.declared.outcome.Stats.{Stats}
 use Rattle.part_cuts.specs.Within.{most_bytes}
 use Rattle.csv_writer.specs.WrittenTable.{written_table}
 use Rattle.csv_writer.specs.WrittenRejects.{written_rejects}
+use Rattle.column_profile.specs.Profile.{profile_text}
 use Rattle.db_writer.specs.Database.{database}
+use Rattle.npz_writer.specs.Members.{arrays}
 use Rattle.loader_reply.specs.Batch.{batch_refusal, found_in_first, load_of, names_of}
+use Rattle.loader_reply.specs.ArrayFiles.{files_if_stored}
+use Rattle.loader_reply.specs.Asking.{asked_by, asked_names}
 use Rattle.loader_reply.specs.Databases.{stored_files}
 use Rattle.loader_reply.specs.Fitting.{no_column, refusal}
 use Rattle.loader_reply.specs.Ending.{ending_code, ending_of}
@@ -41,7 +42,7 @@ use Rattle.loader_reply.specs.Showing.{tap_lines}
 use Rattle.loader_reply.specs.Splitting.{split_outcome}
 use Rattle.loader_reply.specs.declared.answering.Answer.{Answer}
 use Rattle.loader_reply.specs.declared.answering.Answer.TheVariants as answers
-use Rattle.loader_reply.specs.declared.batch.Load.{Load as FilesLoad}
+use Rattle.loader_reply.specs.declared.batch.Load.{Load}
 use Rattle.loader_reply.specs.declared.batch.Load.TheVariants as loads
 use Rattle.loader_reply.specs.declared.ending.Ending.{Ending}
 use Rattle.loader_reply.specs.declared.ending.Ending.TheVariants as endings
@@ -92,6 +93,10 @@ without_spare l = record l { table = record l.table { spare = 0 } }
 abbrev pub summary_reply : Loaded → List Seen → Reply
 summary_reply l taps = outcome_reply (outcomes.Summary l (tap_lines taps l.table.rows))
 
+-- what each column holds
+abbrev pub profile_reply : Sniffed → BatchView → Reply
+profile_reply s batch = reply (endings.Answered (all_in batch.files) (Some s.noticed)) (profile_text s.names s.types batch.rows)
+
 -- the rows under the names that were found
 abbrev pub written_reply : Sniffed → BatchView → Reply
 written_reply s batch = reply (endings.Answered (all_in batch.files) (Some s.noticed)) (written_table s.names batch.rows)
@@ -100,6 +105,10 @@ abbrev pub database_reply : Options → Sniffed → BatchView → Reply
 database_reply o s batch =
     reply (endings.Answered (all_in batch.files) (Some s.noticed)) (database o.table s batch.rows (stored_files o.store_rejects batch.files))
 
+abbrev pub arrays_reply : Options → Sniffed → BatchView → Reply
+arrays_reply o s batch =
+    reply (endings.Answered (all_in batch.files) (Some s.noticed)) (arrays s batch.rows (files_if_stored o.store_rejects batch.files))
+
 -- the stored rejects of the first file
 abbrev pub rejects_reply : Options → Sniffed → BatchView → Reply
 rejects_reply o s batch = reply (endings.Answered (all_in batch.files) (Some s.noticed)) (written_rejects (first_file o batch.files).book.stored)
@@ -107,9 +116,11 @@ rejects_reply o s batch = reply (endings.Answered (all_in batch.files) (Some s.n
 abbrev pub whole_reply : Answer → Options → Sniffed → List Seen → BatchView → Stats → Reply
 whole_reply answers.Loaded o s taps batch stats = outcome_reply (outcomes.Loaded (loaded_of o s batch stats))
 whole_reply answers.Summary o s taps batch stats = summary_reply (loaded_of o s batch stats) taps
+whole_reply answers.Profile o s taps batch stats = profile_reply s batch
 whole_reply answers.Written o s taps batch stats = written_reply s batch
 whole_reply answers.Rejects o s taps batch stats = rejects_reply o s batch
 whole_reply answers.Database o s taps batch stats = database_reply o s batch
+whole_reply answers.Arrays o s taps batch stats = arrays_reply o s batch
 whole_reply answers.Batch o s taps batch stats = outcome_reply (outcomes.Batch s batch o.store_rejects (then_some o.stats stats))
 
 -- ---- the reply to a load
@@ -120,17 +131,13 @@ unless_refused r None = r
 unless_refused r (Some outcome) = outcome_reply outcome
 
 -- all of it, or the first error, or a file that begins with another header
-abbrev pub whole_or_error : Answer → Options → Sniffed → List Seen → FilesLoad → Reply
+abbrev pub whole_or_error : Answer → Options → Sniffed → List Seen → Load → Reply
 whole_or_error answer o s taps (loads.Whole batch stats) = whole_reply answer o s taps batch stats
 whole_or_error answer o s taps (loads.FirstError reject) = outcome_reply (outcomes.FirstError s reject)
 whole_or_error answer o s taps (loads.OtherHeader file) = outcome_reply (outcomes.Mismatch (OtherHeader file s.names))
 
-abbrev pub load_reply : Answer → Options → Sniffed → List Seen → FilesLoad → Reply
+abbrev pub load_reply : Answer → Options → Sniffed → List Seen → Load → Reply
 load_reply answer o s taps load = unless_refused (whole_or_error answer o s taps load) (refusal answer o s load)
-
--- the answer with a database in its place, where one is wanted
-abbrev pub in_format : Options → Answer → Answer
-in_format o answer = if is_sqlite o.to then answers.Database else answer
 
 -- ---- the reply to inputs, each within its limit
 
@@ -164,24 +171,6 @@ opened_reply to_inputs limit opened = unless_refused (to_inputs (filter_map (λ 
 
 -- ---- the reply to words
 
--- what a command asks for: `batch` alone for several files
-abbrev pub asked_by : Options → Command → Asked
-asked_by o Load = asks.Loaded answers.Loaded false
-asked_by o Sniff = asks.Sniffed
-asked_by o Split = asks.Split
-asked_by o Summary = asks.Loaded answers.Summary false
-asked_by o Convert = asks.Loaded (in_format o answers.Written) false
-asked_by o Rejects = asks.Loaded answers.Rejects false
-asked_by o Batch = asks.Loaded (in_format o answers.Batch) true
-asked_by o Make = asks.Made
-
--- the most bytes of each file that is read for what is asked
-abbrev pub asked_limit : Asked → Options → ℕ
-asked_limit asks.Made o = o.max_input
-asked_limit asks.Sniffed o = o.max_input
-asked_limit asks.Split o = most_bytes
-asked_limit (asks.Loaded answer several) o = o.max_input
-
 -- the reply to the words of a request that asks for this, by what came of their files as they were opened; `make` reads none
 abbrev pub asked_reply : Asked → Request → List (List ℕ) → List Seen → List (Option (List ℕ)) → Reply
 asked_reply asks.Made request words taps opened = reply (endings.Answered 0 None) (made_text request.number request.rows)
@@ -195,13 +184,7 @@ abbrev pub words_reply : Result Request WordFault → List (List ℕ) → List S
 words_reply (Err fault) words taps opened = outcome_reply (outcomes.Refused fault (word_at words fault.index))
 words_reply (Ok request) words taps opened = asked_reply (asked_by request.options request.command) request words taps opened
 
--- the names of the files that are read for what is asked, and that words want to be read
-abbrev pub asked_names : Asked → List ℕ → List (List ℕ)
-asked_names asks.Made word = []
-asked_names asks.Sniffed word = word ∷ []
-asked_names asks.Split word = word ∷ []
-asked_names (asks.Loaded answer several) word = names_of several word
-
+-- the names of the files that words want to be read
 abbrev pub words_names : Result Request WordFault → List ℕ → List (List ℕ)
 words_names (Err fault) word = []
 words_names (Ok request) word = asked_names (asked_by request.options request.command) word

@@ -12,12 +12,13 @@ use Rattle.column_taps.specs.Seen.{Seen}
 use Rattle.report_text.specs.declared.outcome.Outcome.TheVariants as outcomes
 use Rattle.window_load.specs.declared.stop.LoadStop.{LoadStop}
 use Rattle.window_load.specs.declared.stop.LoadStop.TheVariants as stops
+use Rattle.loader_reply.specs.Asking.{asked_by, asked_limit}
 use Rattle.loader_reply.specs.Batch.{AreRead, LacksOne}
 use Rattle.loader_reply.specs.declared.ending.Ending.{Ending}
 use Rattle.loader_reply.specs.declared.ending.Ending.TheVariants as endings
 use Rattle.loader_reply.specs.declared.status.Status.TheVariants as statuses
 use Rattle.loader_reply.specs.Ending.{status_code}
-use Rattle.loader_reply.specs.Reply.{Reply, asked_by, asked_limit, outcome_reply, words_names, words_reply}
+use Rattle.loader_reply.specs.Reply.{Reply, outcome_reply, words_names, words_reply}
 
 -- ---- what words ask for
 
@@ -39,7 +40,7 @@ input_limit (Ok request) = asked_limit (asked_by request.options request.command
 
 -- ---- how a reply comes about, and how it is written
 
--- a whole report, written table, database or made text, refused words, a first error, words that don't fit the file, an input over the limit, more faults than the bound
+-- the whole text that the words ask for, refused words, a first error, words that don't fit the file, an input over the limit, more faults than the bound
 abbrev pub IsAnswer : ℕ → Type 0
 IsAnswer status = (status ≡ status_code statuses.Answered) ⊎ (status ≡ status_code statuses.Refused) ⊎ (status ≡ status_code statuses.FirstError)
     ⊎ (status ≡ status_code statuses.Mismatch) ⊎ (status ≡ status_code statuses.TooLarge) ⊎ (status ≡ status_code statuses.TooManyFaults)

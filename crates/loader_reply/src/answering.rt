@@ -5,7 +5,7 @@ ghost use Rattle.column_taps.specs.Seen.{IsFresh};
 ghost use Rattle.std.specs.Bool.{then_some};
 ghost use Rattle.report_text.specs.Printable.{IsPrintableBatch, IsPrintableLoad};
 ghost use Rattle.report_text.specs.declared.outcome.Outcome.TheVariants as outcomes;
-ghost use Rattle.loader_reply.specs.Fitting.{IsAnswerable};
+ghost use Rattle.loader_reply.specs.Fitting.{IsAnswerable, misfit};
 ghost use Rattle.loader_reply.specs.declared.batch.Load.TheVariants as loads;
 ghost use Rattle.loader_reply.specs.Reply.{loaded_of, opened_reply, sniffed_reply, summary_reply, whole_reply, without_spare, written_reply};
 ghost use Rattle.loader_reply.specs.Replying.{IsReplyBy, IsStopReply};
@@ -32,12 +32,16 @@ pub enum Answer {
     Loaded,
     /// By the report of the only file, with the lines of the taps in place of its rows.
     Summary,
+    /// By what each column holds, as CSV.
+    Profile,
     /// By the rows as CSV.
     Written,
     /// By the stored rejects of the only file as CSV.
     Rejects,
     /// By the rows, and the rejects that are stored, as a database.
     Database,
+    /// By the rows, and the rejects that are stored, as arrays.
+    Arrays,
     /// By the report of several files.
     Batch,
 }
@@ -149,6 +153,7 @@ impl<'a, R: Threads + Sync, G> Loader<'a, R, G> {
         taps: Vec<Box<dyn RowTap>>,
     ) -> Result<Reply, NoMemory>
         requires accepted { IsAccepted self.now.options.now }
+        requires fitting { misfit answer sniffed ≡ None }
         requires answerable { IsAnswerable answer sniffed (loads.Whole batch stats) (map seen taps.items) }
         ensures ok { IfOk result (λ r. r ≡ whole_reply answer self.now.options.now sniffed (map seen taps.items) batch stats) }
     {
@@ -166,6 +171,12 @@ impl<'a, R: Threads + Sync, G> Loader<'a, R, G> {
                 drop(sniffed);
                 reply
             }
+            Answer::Profile => {
+                let reply = self.profile_reply(&sniffed, &batch);
+                drop(sniffed);
+                drop(batch);
+                reply
+            }
             Answer::Rejects => {
                 let reply = self.rejects_reply(&sniffed, &batch);
                 drop(sniffed);
@@ -176,6 +187,11 @@ impl<'a, R: Threads + Sync, G> Loader<'a, R, G> {
                 let reply = self.database_reply(&sniffed, &batch);
                 drop(sniffed);
                 drop(batch);
+                reply
+            }
+            Answer::Arrays => {
+                let reply = self.arrays_reply(&sniffed, batch);
+                drop(sniffed);
                 reply
             }
         }

@@ -2,10 +2,9 @@
 ghost use Rattle.load_options.specs.Accepted.{IsAccepted};
 ghost use Rattle.std.specs.Prelude.{◌≡◌, IfOk};
 ghost use Rattle.report_text.specs.Printable.{IsPrintableBatch};
-ghost use Rattle.loader_reply.specs.Reply.{database_reply, in_format};
+ghost use Rattle.loader_reply.specs.Reply.{database_reply};
 ghost use Rattle.loader_reply.specs.Databases.{is_too_wide, stored_files};
 
-use crate::answering::Answer;
 use crate::ending::Ending;
 use crate::loader::Loader;
 use crate::reply::Reply;
@@ -14,7 +13,6 @@ use csv_sniffer::Sniffed;
 use csv_source::NoMemory;
 use db_writer::{Contents, write_database};
 use file_list::{Batch, FileBook};
-use load_options::is_sqlite;
 use report_text::all_in;
 use std::thread::Threads;
 
@@ -36,17 +34,6 @@ fn stored_files(store: bool, files: &[FileBook]) -> &[FileBook]
 }
 
 impl<'a, R: Threads + Sync, G> Loader<'a, R, G> {
-    /// The answer with a database in its place, where one is wanted.
-    pub fn in_format(&self, answer: Answer) -> Answer
-        ensures { result ≡ in_format self.now.options.now answer }
-    {
-        if is_sqlite(self.options.to) {
-            Answer::Database
-        } else {
-            answer
-        }
-    }
-
     /// The reply with the database of the files, under the options' name for the table of their rows.
     pub fn database_reply(&self, sniffed: &Sniffed, batch: &Batch) -> Result<Reply, NoMemory>
         requires accepted { IsAccepted self.now.options.now }

@@ -14,9 +14,9 @@ use report_text::{Mismatch, Outcome};
 /// How a run ended.
 #[derive(Drop)]
 pub enum Ending {
-    /// The whole report, written table, database or made text was written. So many faults of rows were passed over, stored or not: 0
-    /// for `sniff`, `split` and `make`. Beside it stands what was noticed in the file, of `batch` in the first one; none where no file
-    /// was looked at.
+    /// The whole text that the words ask for was written. So many faults of rows were passed over, stored or not: 0 for `sniff`,
+    /// `split` and `make`. Beside it stands what was noticed in the file, of `batch` in the first one; none where no file was
+    /// looked at.
     Answered(u64, Option<Noticed>),
     /// The words were refused.
     Refused(WordFault),

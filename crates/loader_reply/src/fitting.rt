@@ -1,10 +1,11 @@
 // Whether what files come to is as the options want it.
 ghost use Rattle.load_options.specs.Accepted.{IsAccepted};
-ghost use Rattle.std.specs.Prelude.{◌≡◌, map, IfOk, IfSome};
-ghost use Rattle.loader_reply.specs.Fitting.{is_database, mismatch, no_column, passed_bound, refusal, too_many_faults, IsAnswerable};
+ghost use Rattle.std.specs.Prelude.{◌≡◌, map, IfOk, IfSome, None};
+ghost use Rattle.loader_reply.specs.Fitting.{is_arrays, is_database, misfit, mismatch, no_column, passed_bound, refusal, too_many_faults, IsAnswerable};
 ghost use Rattle.loader_reply.specs.Reply.{IsShort, load_reply, whole_or_error};
 
 use crate::answering::Answer;
+use crate::arrays::long_name;
 use crate::batch::{Load, LoadedFiles};
 use crate::database::{COLUMN_LIMIT, is_too_wide};
 use crate::loader::Loader;
@@ -22,9 +23,43 @@ fn is_database(answer: Answer) -> bool
 {
     match answer {
         Answer::Database => true,
-        Answer::Loaded | Answer::Summary | Answer::Written | Answer::Rejects | Answer::Batch =>
-            false,
+        Answer::Loaded
+        | Answer::Summary
+        | Answer::Profile
+        | Answer::Written
+        | Answer::Rejects
+        | Answer::Arrays
+        | Answer::Batch => false,
     }
+}
+
+/// Whether an answer is arrays.
+fn is_arrays(answer: Answer) -> bool
+    ensures { result ≡ is_arrays answer }
+{
+    match answer {
+        Answer::Arrays => true,
+        Answer::Loaded
+        | Answer::Summary
+        | Answer::Profile
+        | Answer::Written
+        | Answer::Rejects
+        | Answer::Database
+        | Answer::Batch => false,
+    }
+}
+
+/// How what was found doesn't fit the format of an answer, where it doesn't.
+fn misfit(answer: Answer, sniffed: &Sniffed) -> Option<Mismatch>
+    ensures { result ≡ misfit answer sniffed.now }
+{
+    if is_database(answer) && is_too_wide(sniffed) {
+        return Some(Mismatch::TooManyColumns(COLUMN_LIMIT as u64));
+    }
+    if is_arrays(answer) {
+        return long_name(sniffed);
+    }
+    None
 }
 
 /// The bound on faults, where there are more of them.
@@ -68,10 +103,7 @@ impl<'a, R, G> Loader<'a, R, G> {
         if let Some(mismatch) = self.no_column(sniffed)? {
             return Ok(Some(mismatch));
         }
-        if is_database(answer) && is_too_wide(sniffed) {
-            return Ok(Some(Mismatch::TooManyColumns(COLUMN_LIMIT as u64)));
-        }
-        Ok(None)
+        Ok(misfit(answer, sniffed))
     }
 
     /// The outcome that comes before an answer to files.
@@ -123,6 +155,7 @@ impl<'a, R: Threads + Sync, G> Loader<'a, R, G> {
         taps: Vec<Box<dyn RowTap>>,
     ) -> Result<Reply, NoMemory>
         requires accepted { IsAccepted self.now.options.now }
+        requires fitting { misfit answer files.sniffed ≡ None }
         requires answerable { IsAnswerable answer files.sniffed files.load (map seen taps.items) }
         ensures ok { IfOk result (λ r. r ≡ whole_or_error answer self.now.options.now files.sniffed (map seen taps.items) files.load) }
     {

@@ -7,6 +7,7 @@ ghost use Rattle.loader_reply.specs.ReplyText.{text_of};
 
 use csv_source::{Failed, Sink};
 use csv_writer::TableRows;
+use npz_writer::ArraysText;
 use report_text::ReportRows;
 use std::thread::Threads;
 use text_pieces::{Pieces, RowedText};
@@ -20,6 +21,8 @@ pub enum ReplyText {
     Report(RowedText<ReportRows>),
     /// A table as CSV.
     Table(RowedText<TableRows>),
+    /// A table as arrays.
+    Arrays(ArraysText),
 }
 
 impl ReplyText {
@@ -34,6 +37,7 @@ impl ReplyText {
             ReplyText::Whole(text) => text.write(sink),
             ReplyText::Report(text) => text.write(rt, sink),
             ReplyText::Table(text) => text.write(rt, sink),
+            ReplyText::Arrays(text) => text.write(sink),
         }
     }
 }

@@ -11,7 +11,8 @@ ghost use Rattle.loader_reply.specs.declared.ending.Ending.TheVariants as ending
 ghost use Rattle.loader_reply.specs.declared.status.Status.TheVariants as statuses;
 ghost use Rattle.loader_reply.specs.Ending.{status_code};
 ghost use Rattle.loader_reply.specs.Replying.{ReadsFile, ReadsNoFile, IsReplyBy, IsReplyTo};
-ghost use Rattle.loader_reply.specs.Reply.{texts, reply, asked_by, asked_limit, asked_names, asked_reply, outcome_reply};
+ghost use Rattle.loader_reply.specs.Asking.{asked_by, asked_limit, asked_names, in_format};
+ghost use Rattle.loader_reply.specs.Reply.{texts, reply, asked_reply, outcome_reply};
 
 use crate::answering::Answer;
 use crate::ending::Ending;
@@ -20,7 +21,9 @@ use crate::reply::Reply;
 use crate::reply_text::ReplyText;
 use column_taps::RowTap;
 use csv_source::{Bytes, Gate, NoMemory, Source};
-use load_options::{Command, Request, WordFault, WordStop, parse_words, word_at};
+use load_options::{
+    Command, Request, WordFault, WordStop, is_npz, is_sqlite, parse_words, word_at,
+};
 use report_text::{Outcome, make_text};
 use std::alloc::Global;
 use std::sync::Wait;
@@ -61,6 +64,19 @@ fn made_reply(alloc: Global, request: &Request) -> Result<Reply, NoMemory>
 }
 
 impl<'a, R: Threads + Sync, G> Loader<'a, R, G> {
+    /// The answer with a database or arrays in its place, where they are wanted.
+    fn in_format(&self, answer: Answer) -> Answer
+        ensures { result ≡ in_format self.now.options.now answer }
+    {
+        if is_sqlite(self.options.to) {
+            Answer::Database
+        } else if is_npz(self.options.to) {
+            Answer::Arrays
+        } else {
+            answer
+        }
+    }
+
     /// What a command asks for.
     fn asked(&self, command: Command) -> Asked
         ensures { result ≡ asked_by self.now.options.now command }
@@ -72,6 +88,7 @@ impl<'a, R: Threads + Sync, G> Loader<'a, R, G> {
             Command::Load => Asked::Loaded(Answer::Loaded, false),
             Command::Rejects => Asked::Loaded(Answer::Rejects, false),
             Command::Summary => Asked::Loaded(Answer::Summary, false),
+            Command::Profile => Asked::Loaded(Answer::Profile, false),
             Command::Convert => Asked::Loaded(self.in_format(Answer::Written), false),
             Command::Batch => Asked::Loaded(self.in_format(Answer::Batch), true),
         }

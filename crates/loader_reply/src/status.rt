@@ -5,7 +5,7 @@ ghost use Rattle.loader_reply.specs.Ending.{status_code};
 /// How a run ended, without what was found out.
 #[derive(Clone, Copy, Debug, PartialEq, Eq)]
 pub enum Status {
-    /// The whole report, written table, database or made text was written.
+    /// The whole text that the words ask for was written.
     Answered,
     /// The words were refused.
     Refused,

@@ -12,3 +12,4 @@ mod load_options_limits;
 mod load_options_words;
 mod text_pieces_rowed;
 mod words;
+mod zip_archive_bytes;

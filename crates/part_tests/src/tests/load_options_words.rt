@@ -1,6 +1,6 @@
 //! Lines of words that are accepted, and the options that they give.
 use super::words::{accepted, is_accepted};
-use load_options::{Choice, Options, OutputFormat, is_sqlite};
+use load_options::{Choice, Options, OutputFormat, is_binary, is_npz, is_sqlite};
 use std::alloc::Global;
 use std::process::Abort;
 
@@ -81,6 +81,17 @@ fn are_numbers_given(options: &Options) -> bool {
 }
 
 #[test]
+fn a_profile_passes_faults_over(rt: HostRuntime) {
+    let options = accepted(
+        &rt,
+        rt.alloc(),
+        "profile f.csv ignore_errors=false max_errors=3",
+    )
+    .options;
+    assert!(rt; options.ignore_errors && !options.store_rejects && options.max_errors == Some(3));
+}
+
+#[test]
 fn words_name_the_file_that_is_written(rt: HostRuntime) {
     let output = accepted(&rt, rt.alloc(), "summary f.csv output=a=b").output;
     assert!(rt; matches!(&output, Some(name) if name.as_slice() == b"a=b".as_slice()));
@@ -95,7 +106,7 @@ fn accepted_words_give_options(rt: HostRuntime) {
 /// A line, the format that it gives, and the name of the table.
 struct Formatted(&'static str, Option<OutputFormat>, &'static [u8]);
 
-const FORMATTED: [Formatted; 7] = [
+const FORMATTED: [Formatted; 9] = [
     Formatted("convert f.csv", None, b"data"),
     Formatted("convert f.csv to=csv", Some(OutputFormat::Csv), b"data"),
     Formatted(
@@ -123,11 +134,16 @@ const FORMATTED: [Formatted; 7] = [
         Some(OutputFormat::Sqlite),
         b"DATA=1",
     ),
+    Formatted("convert f.csv to=npz", Some(OutputFormat::Npz), b"data"),
+    Formatted("batch a.csv,b.csv to=npz", Some(OutputFormat::Npz), b"data"),
 ];
 
 fn is_formatted(options: &Options, row: &Formatted) -> bool {
+    let is_text = row.1.is_none() || row.1 == Some(OutputFormat::Csv);
     options.to == row.1
         && is_sqlite(options.to) == (row.1 == Some(OutputFormat::Sqlite))
+        && is_npz(options.to) == (row.1 == Some(OutputFormat::Npz))
+        && is_binary(options.to) != is_text
         && options.table.as_slice() == row.2
 }
 

@@ -1,7 +1,8 @@
 use Rattle.std.proofs.Common.{◌≡◌, List, Option, ℕ, refl}
 use Rattle.column_taps.specs.Seen.{Seen}
 use Rattle.load_options.specs.declared.options.Request.{Request}
-use Rattle.loader_reply.specs.Reply.{asked_by, asked_reply}
+use Rattle.loader_reply.specs.Asking.{asked_by}
+use Rattle.loader_reply.specs.Reply.{asked_reply}
 use Rattle.loader_reply.specs.declared.replying.Asked.{Asked}
 use Rattle.loader_reply.specs.declared.replying.Asked.TheVariants.{Made, Sniffed, Split, Loaded}
 use Rattle.loader_reply.proofs.laws.output_changes_no_reply.Goals as goal
