@@ -5,7 +5,6 @@ there that is said, and nothing of it is tried.
 """
 
 import contextlib
-import doctest
 import os
 import pathlib
 import subprocess
@@ -18,6 +17,7 @@ from datetime import date, datetime, time
 sys.dont_write_bytecode = True
 
 import hard_rows  # noqa: E402 (before it nothing may be written there)
+import shown  # noqa: E402
 from sqlite import Report  # noqa: E402
 
 TOP = pathlib.Path(__file__).resolve().parent.parent
@@ -346,16 +346,9 @@ class Refusals(Trial):
         self.assertIn("ImportError: csvload.dask takes Dask: pip install", done.stderr)
 
 
-def stand_at_examples(_: doctest.DocTest) -> None:
-    os.chdir(TOP / "examples")
-
-
 def load_tests(_: unittest.TestLoader, tests: unittest.TestSuite, __: object) -> unittest.TestSuite:
     """The tests above, and what the module and examples/README.md show."""
-    shown = [test for test in doctest.DocTestFinder().find(csvload.dask) if test.examples]
-    text = (TOP / "examples" / "README.md").read_text()
-    shown.append(doctest.DocTestParser().get_doctest(text, {}, "README.md", "examples/README.md", 0))
-    tests.addTests(doctest.DocTestCase(test, setUp=stand_at_examples) for test in shown)
+    tests.addTests(shown.tests_of([csvload.dask]))
     return tests
 
 

@@ -42,8 +42,8 @@ MEMORY = (3_000, 4_000, 5_000, 6_000, 8_000, 12_000, 24_000, 48_000, 96_000, 192
 FEW_WRITES = 250
 
 # Each call that writes.
-CALLS = [f"{command} short.csv" for command in ("load", "summary", "convert", "rejects", "batch", "sniff")]
-CALLS += ["split short.csv size=9", "make 7", "--help", "--version"]
+CALLS = [f"{command} short.csv" for command in ("load", "summary", "profile", "convert", "rejects", "batch", "sniff")]
+CALLS += ["convert short.csv to=npz", "split short.csv size=9", "make 7", "--help", "--version"]
 
 FAULT = b"fault|read\n"
 

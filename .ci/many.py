@@ -121,6 +121,10 @@ def refused(made: str, environment: dict[str, str]) -> None:
     assert status == 0, (status, said)
     assert sorted(path.name for path in into.glob("*.db")) == ["a.db", "rejects.db"], list(into.iterdir())
     assert [[row[0], row[9]] for row in rows_of(into / "rejects.csv")[1:]] == [["rejects.csv", "x,d"]]
+    arrays = pathlib.Path(made, "arrays")
+    assert convert(folder, arrays, environment, "to=npz", "types=BIGINT,VARCHAR")[0] == 0
+    assert sorted(path.name for path in arrays.iterdir()) == [".rejects", "a.npz", "rejects.csv", "rejects.npz"], list(arrays.iterdir())
+    assert (arrays / "a.npz").read_bytes().startswith(b"PK\3\4")
 
 
 def anew(made: str, environment: dict[str, str]) -> None:
@@ -165,7 +169,7 @@ def kept(made: str, environment: dict[str, str]) -> None:
     there = held(into)
     assert len(there) == 3, there
     refused = (
-        ("to=sqlit", "csvload: 'to=sqlit' is refused: to takes csv or sqlite"),
+        ("to=sqlit", "csvload: 'to=sqlit' is refused: to takes csv, sqlite or npz"),
         ("output=x", "many.sh: 'output=x' is no option here"),
         ("header=false", "many.sh: another call is at work in './-into'"),
     )

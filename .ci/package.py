@@ -45,7 +45,7 @@ SHARED = {
     "share/doc/csvload/examples/scores.csv",
     "share/man/man1/csvload.1.gz",
 }
-MODULES = {f"csvload/{name}.py" for name in ("__init__", "dask", "finding", "frames", "reading", "running", "splitting")} | {"csvload/py.typed"}
+MODULES = {f"csvload/{name}.py" for name in ("__init__", "arrays", "dask", "finding", "frames", "reading", "running", "splitting")} | {"csvload/py.typed"}
 BELOW_PREFIX = PROGRAMS | SHARED | {"share/zsh/site-functions/_csvload"}
 IN_TAR = BELOW_PREFIX | {"install.sh", "python/backend.py", "python/pyproject.toml"} | {f"python/{name}" for name in MODULES}
 IN_DEB = PROGRAMS | SHARED | {"share/zsh/vendor-completions/_csvload"} | {f"lib/python3/dist-packages/{name}" for name in MODULES}

@@ -3,7 +3,6 @@
 what the documents show. CSVLOAD names the program. Where pandas or R isn't there that is said, and nothing of it is tried.
 """
 
-import doctest
 import importlib.util
 import os
 import pathlib
@@ -19,6 +18,7 @@ from datetime import date, datetime, time
 sys.dont_write_bytecode = True
 
 import hard_rows  # noqa: E402 (before it nothing may be written there)
+import shown  # noqa: E402
 
 TOP = pathlib.Path(__file__).resolve().parent.parent
 sys.path.insert(0, str(TOP / "python"))
@@ -105,6 +105,17 @@ class Read(Folder):
     def test_names_that_differ_in_case_get_a_suffix(self) -> None:
         self.assertEqual(csvload.read(self.write("case.csv", b"a,A\n1,2\n")).columns, {"a": [1], "A_1": [2]})
 
+    def test_any_name_is_a_column(self) -> None:
+        names = ["a%2Fb", "a/b", "a\\b", ":null", "x", "x:ends", "reject_errors/line", "a\0", "a\nb", "\x7f", "straße", "a.npy", "a"]
+        header, row = ",".join(f'"{name}"' for name in names), ",".join(map(str, range(len(names))))
+        table = csvload.read(self.write("names.csv", f"{header}\n{row}\n".encode()), header=True, store_rejects=True)
+        self.assertEqual(table.columns, {name: [place] for place, name in enumerate(names)})
+        self.assertEqual((list(table.types), table.rejects), (names, []))
+
+    def test_there_may_be_any_number_of_columns(self) -> None:
+        file = self.write("wide.csv", "".join(",".join(f"{name}{n}" for n in range(3_000)) + "\n" for name in "c1").encode())
+        self.assertEqual(csvload.read(file).columns, {f"c{n}": [int(f"1{n}")] for n in range(3_000)})
+
     def test_rejects_have_their_bytes(self) -> None:
         file = self.write("bad.csv", b"a,n\nb\xff,1\nx,q\ngood,3\n")
         table = csvload.read(file, types=["VARCHAR", "BIGINT"], store_rejects=True)
@@ -158,6 +169,23 @@ class Frame(Folder):
     def test_great_numbers_and_far_days_are_kept(self) -> None:
         self.has_cells(self.cells(csvload.frame(self.write("lost.csv", LOST))), LOST_CELLS)
 
+    def test_texts_of_all_kinds_stand_beside_nulls(self) -> None:
+        texts = ["plain", "äöü", "", None, "a\0b", "東京", "\U0001d11e", None, "x" * 300]
+        for chosen in (texts, [text for text in texts if text is None or text.isascii()]):
+            data = "".join("NULL\n" if text is None else f'"{text}"\n' for text in ["t", *chosen]).encode()
+            frame = csvload.frame(self.write("texts.csv", data), header=True, nullstr="NULL", delim=",")
+            self.has_cells(self.cells(frame), {"t": chosen})
+
+    def test_a_frame_can_be_changed(self) -> None:
+        frame = csvload.frame(self.write("two.csv", b"n,ok\n1,true\n,\n3,false\n"))
+        frame.loc[0, "n"], frame.loc[1, "n"], frame.loc[2, "ok"] = 5, 6, None
+        self.has_cells(self.cells(frame), {"n": [5, 6, 3], "ok": [True, None, None]})
+
+    def test_a_header_alone_has_the_types_of_its_columns(self) -> None:
+        frame = csvload.frame(self.write("head.csv", hard_rows.as_csv().partition(b"\n")[0] + b"\n"), **HARD_OPTIONS)
+        self.assertEqual([str(kind) for kind in frame.dtypes], ["Int64", "boolean", "object", "object", "object", "string"])
+        self.assertEqual(len(frame), 0)
+
     def test_rejects_go_with_it(self) -> None:
         frame = csvload.frame(self.write("bad.csv", b"a,n\nx,q\n"), types=["VARCHAR", "BIGINT"], store_rejects=True)
         self.assertEqual((len(frame), [reject["line"] for reject in frame.attrs["rejects"]]), (0, [2]))
@@ -198,19 +226,10 @@ class R(Folder):
         self.assertEqual(lines, ["NA" if cell in lost else "=" + str(cell).encode().hex() for cell in cells])
 
 
-def stand_at_examples(_: doctest.DocTest) -> None:
-    os.chdir(TOP / "examples")
-
-
 def load_tests(loader: unittest.TestLoader, tests: unittest.TestSuite, _: object) -> unittest.TestSuite:
     """The tests above, and what the modules and examples/README.md show."""
-    shown = [test for module in MODULES for test in doctest.DocTestFinder().find(module)]
-    text = (TOP / "examples" / "README.md").read_text()
-    shown.append(doctest.DocTestParser().get_doctest(text, {}, "README.md", "examples/README.md", 0))
-    for test in shown:
-        # A frame is made where pandas is; what Dask takes is tried by cluster.py.
-        test.examples = [it for it in test.examples if "dask" not in it.source and (HAS_PANDAS or "frame(" not in it.source)]
-    tests.addTests(doctest.DocTestCase(test, setUp=stand_at_examples) for test in shown if test.examples)
+    # A frame is made where pandas is, and with it numpy; what Dask takes is tried by cluster.py.
+    tests.addTests(shown.tests_of(MODULES, ["dask"] if HAS_PANDAS else ["dask", "frame(", "numpy", "arrays["]))
     return tests
 
 

@@ -25,7 +25,7 @@ SEEDS = [
     b"a\\\"b,\"c\\\"d\"\r1,2\r\n",
 ]
 
-COMMANDS = [["load"], ["load"], ["summary"], ["convert"], ["convert", "to=sqlite"], ["rejects"]]
+COMMANDS = [["load"], ["load"], ["summary"], ["convert"], ["convert", "to=sqlite"], ["convert", "to=npz"], ["profile"], ["rejects"]]
 
 WORDS = [
     ["header=false"],

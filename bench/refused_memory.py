@@ -95,6 +95,8 @@ RUNS = [
     ["batch", "FILE,FILE", "types=BIGINT,VARCHAR", "header=false", "store_rejects=true", "range_size=4"],
     ["rejects", "FILE", "types=BIGINT,VARCHAR", "header=false", "range_size=4"],
     ["convert", "FILE", "to=sqlite", "types=BIGINT,VARCHAR", "header=false", "store_rejects=true", "range_size=4"],
+    ["convert", "FILE", "to=npz", "types=BIGINT,VARCHAR", "header=false", "store_rejects=true", "range_size=4"],
+    ["profile", "FILE", "types=BIGINT,VARCHAR", "header=false", "range_size=4"],
     ["sniff", "FILE", "explain=true"],
     ["split", "FILE", "size=4"],
     ["batch", "FILE,FILE", "same_header=true", "header=true", "ignore_errors=true", "range_size=4"],

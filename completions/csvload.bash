@@ -34,7 +34,7 @@ _csvload() {
     # </options>
     COMPREPLY=()
     if [ "$COMP_CWORD" -eq 1 ]; then
-        mapfile -t COMPREPLY < <(compgen -W 'load summary convert rejects batch sniff split make help version --help --version' -- "$word")
+        mapfile -t COMPREPLY < <(compgen -W 'load summary profile convert rejects batch sniff split make help version --help --version' -- "$word")
         return
     fi
     case ${COMP_WORDS[1]} in
@@ -45,7 +45,7 @@ _csvload() {
             compopt -o nospace
             [ "$COMP_CWORD" -eq 3 ] && mapfile -t COMPREPLY < <(compgen -W "${options[*]}" -- "$word")
             ;;
-        load | summary | convert | rejects | batch | sniff | split)
+        load | summary | profile | convert | rejects | batch | sniff | split)
             if [ "$COMP_CWORD" -eq 2 ]; then
                 # Of several names the last one is completed; what is quoted is taken as it is meant.
                 local first= last
@@ -63,7 +63,7 @@ _csvload() {
             [[ $whole == *=* ]] && name=${whole%%=*} value=${whole#*=}
             case $name in
                 to)
-                    mapfile -t COMPREPLY < <(compgen -W 'csv sqlite' -- "$value")
+                    mapfile -t COMPREPLY < <(compgen -W 'csv sqlite npz' -- "$value")
                     ;;
                 output)
                     # The file's name is a word of its own, or stands behind the option's.

@@ -3,11 +3,11 @@
 #
 #     many.sh FOLDER INTO [NAME=VALUE]..
 #
-# Of each FOLDER/NAME.csv or NAME.CSV comes INTO/NAME.csv, or with to=sqlite INTO/NAME.db, read as `csvload batch` reads it: under
-# what is found in the first file, by the order of the names. Faulty rows are left out and stand in INTO/rejects.csv, the file's
-# name before each. A result stands in INTO only when it is whole: what failed is named at the end, with status 1, and the next
-# call does that and what is newer than its result; of another FOLDER, under other words, or where other ones fit the first file,
-# it does all anew. With status 2 nothing was begun, and no file that was there is touched.
+# Of each FOLDER/NAME.csv or NAME.CSV comes INTO/NAME.csv, with to=sqlite INTO/NAME.db, or with to=npz INTO/NAME.npz, read as
+# `csvload batch` reads it: under what is found in the first file, by the order of the names. Faulty rows are left out and stand in
+# INTO/rejects.csv, the file's name before each. A result stands in INTO only when it is whole: what failed is named at the end, with
+# status 1, and the next call does that and what is newer than its result; of another FOLDER, under other words, or where other ones
+# fit the first file, it does all anew. With status 2 nothing was begun, and no file that was there is touched.
 # Further words are csvload's own options. Options of GNU parallel, as --jobs 4 or --sshlogin one,other, stand in the variable
 # PARALLEL; other machines must see both folders under the same names. CSVLOAD names the program.
 set -euo pipefail
@@ -48,7 +48,7 @@ reading=(ignore_errors=true) writing=()
 for word in "$@"; do
     if gives "$word" output explain; then refuse "'$word' is no option here"; fi
     if gives "$word" to table; then writing+=("$word"); else reading+=("$word"); fi
-    if [ "$word" = to=sqlite ]; then ending=db; fi
+    case $word in to=sqlite) ending=db ;; to=npz) ending=npz ;; esac
 done
 
 # By the bytes of the names, whatever the locale.

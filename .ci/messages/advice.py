@@ -112,6 +112,8 @@ EMPTIED = "csvload: hint: 'g.csv' is standard output itself, which the shell emp
 
 NO_DATABASE = "csvload: standard output has the report, and no database; output=FILE leaves a file as it was\n"
 
+NO_ARRAYS = "csvload: standard output has the report, and no arrays; output=FILE leaves a file as it was\n"
+
 
 def check_shell_output() -> None:
     """What a shell's `>` does to a file is told, and `output` does it not."""
@@ -122,6 +124,8 @@ def check_shell_output() -> None:
     call = "csvload convert bad.csv delim=, types=BIGINT,BIGINT to=sqlite"
     status, _, said = shell(call + " > o.db", files)
     assert status == 3 and said.endswith(NO_DATABASE), said
+    said = shell(call.replace("sqlite", "npz") + " > o.npz", files)[2]
+    assert said.endswith(NO_ARRAYS), said
     for other in [" | cat", " output=o.db", " > /dev/null"]:
         assert "no database" not in shell(call + other, files)[2], other
 

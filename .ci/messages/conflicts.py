@@ -67,9 +67,14 @@ CONFLICTS = [
     ),
     conflict(["table=orders"], 2, "table=orders wants to=sqlite", "convert"),
     conflict(["to=sqlite"], 2, "load writes no database: convert and batch do"),
+    conflict(["to=npz"], 2, "summary writes no arrays: convert and batch do", "summary"),
+    conflict(["to=npz", "table=orders"], 3, "table=orders wants to=sqlite", "convert"),
     conflict(["to=csv"], 2, "load writes no CSV: convert does"),
+    conflict(["to=npz"], 2, "profile writes no other format than its CSV", "profile"),
+    conflict(["table=orders"], 2, "table=orders wants to=sqlite", "profile"),
+    conflict(["max_errors=1", "rejects_limit=5"], 3, "rejects_limit=5 wants store_rejects=true", "profile"),
     conflict(["to=csv"], 2, "rejects writes no other format than its CSV", "rejects"),
-    conflict(["to=csv"], 2, "batch writes no CSV: it prints its report, or a database with to=sqlite", "batch"),
+    conflict(["to=csv"], 2, "batch writes no CSV: it prints its report, a database with to=sqlite, or arrays with to=npz", "batch"),
 ]
 
 # Words that can't stand together and what is said of them, in the order in which conflicts are looked for.
@@ -95,7 +100,7 @@ CLASHES = {
     "batch": {
         "names=a,b types=DATE": "names gives 2 and types 1: as many of each are wanted",
         "table=t": "table=t wants to=sqlite",
-        "to=csv": "batch writes no CSV: it prints its report, or a database with to=sqlite",
+        "to=csv": "batch writes no CSV: it prints its report, a database with to=sqlite, or arrays with to=npz",
         "nulls=NA nullstr=x": "nulls=NA and nullstr=x can't stand together: nulls takes all the texts",
         "same_header=true names=a,b": "same_header=true and names=a,b can't stand together: given names are no header's",
         "same_header=true header=false": "same_header=true and header=false can't stand together: there is no header then",

@@ -67,6 +67,7 @@ OVER = [
     # The words and the spaces before them have 60 characters, and one more.
     over(["load", "nullstr=" + "x" * 51], f"csvload rejects a.csv nullstr={'x' * 51} lists them"),
     over(["load", "nullstr=" + "x" * 52], SAME_WORDS),
+    over(["profile", *TYPES], "csvload rejects a.csv types=BIGINT,VARCHAR header=true lists them"),
     over(["rejects", *TYPES], ""),
     over(["load", *TYPES], "", "-", "standard input"),
 ]

@@ -148,15 +148,17 @@ SCREENS = [
     (["load", "-", "types=DATE,DATE", "header=true"], b"options|delim=,|"),
     (["load", "-", "types=DATE,DATE", "ignore_errors=true", "max_errors=0"], b"fault|over 0 faults\r\ncsvload: standard input has"),
     (["load", "-", "max_input=11"], b"fault|input over 11 bytes\r\ncsvload: standard input has"),
+    (["profile", "-"], b"column,name,type,rows,"),
     (["convert", "-", "to=sqlite"], b"SQLite format 3\0"),
+    (["convert", "-", "to=npz"], b"PK\x03\x04"),
 ]
 
 
 def screen_of(words: list[str]) -> bytes:
-    """What comes to a terminal on which both the text and the lines for a person are; a database gets there by a pipe."""
+    """What comes to a terminal on which both the text and the lines for a person are; a database and arrays get there by a pipe."""
     terminal, other_side = pty.openpty()
     reading, pipe = os.pipe()
-    call = ["sh", "-c", '"$0" "$@" | cat', PROGRAM, *words] if "to=sqlite" in words else [PROGRAM, *words]
+    call = ["sh", "-c", '"$0" "$@" | cat', PROGRAM, *words] if {"to=sqlite", "to=npz"} & set(words) else [PROGRAM, *words]
     with subprocess.Popen(call, stdin=reading, stdout=other_side, stderr=other_side) as program:
         os.close(other_side)
         os.close(reading)

@@ -31,8 +31,8 @@ def option(word: str, rule: str, line: str) -> Case:
 
 
 COMMANDS = [
-    refused([], "NoCommand", 0, "a command is wanted: load, summary, convert, rejects, batch, sniff, split or make" + HELP),
-    refused(["frob"], "BadCommand", 0, "'frob' is no command: load, summary, convert, rejects, batch, sniff, split and make are" + HELP),
+    refused([], "NoCommand", 0, "a command is wanted: load, summary, profile, convert, rejects, batch, sniff, split or make" + HELP),
+    refused(["frob"], "BadCommand", 0, "'frob' is no command: load, summary, profile, convert, rejects, batch, sniff, split and make are" + HELP),
     refused(["-v"], "BadCommand", 0, "'-v' is no command: -V or version is meant"),
     refused(["load"], "NoFile", 1, "a file's name is wanted after load" + HELP),
     refused(["load", ""], "NoFile", 1, "a file's name is wanted after load" + HELP),
@@ -155,8 +155,8 @@ VALUES = [
     option("types={'my id': 'BIGINT', 'b': 'DATE'}", "BadValue", "types has no names: 'column_types=my id:BIGINT,b:DATE'"),
     option("delim=", "BadValue", r"'delim=' is refused: delim takes one ASCII character, or \t for a tab; a shell takes ; and | for its own: 'delim=;'"),
     option("sep=", "BadValue", r"'sep=' is refused: sep takes one ASCII character, or \t for a tab; a shell takes ; and | for its own: 'sep=;'"),
-    refused(["convert", "f.csv", "to=out.csv"], "BadValue", 2, "'to=out.csv' is refused: to takes csv or sqlite; output=out.csv names the file"),
-    refused(["convert", "f.csv", "to=../my out"], "BadValue", 2, "'to=../my out' is refused: to takes csv or sqlite; 'output=../my out' names the file"),
+    refused(["convert", "f.csv", "to=out.csv"], "BadValue", 2, "'to=out.csv' is refused: to takes csv, sqlite or npz; output=out.csv names the file"),
+    refused(["convert", "f.csv", "to=../my out"], "BadValue", 2, "'to=../my out' is refused: to takes csv, sqlite or npz; 'output=../my out' names the file"),
     option("names=a,b,a", "BadValue", "'a' stands twice in names"),
     option("names=a,,b", "BadValue", "name 2 of names is empty"),
     option("column_names=a,b,", "BadValue", "name 3 of column_names is empty"),
@@ -172,7 +172,7 @@ VALUES = [
     option("output=", "BadValue", "'output=' is refused: output takes a file's name of 1 to 4096 bytes"),
     option("output=-", "BadValue", "'output=-' is refused: output takes a file's name of 1 to 4096 bytes"),
     option("max_errors=-1", "BadValue", "'max_errors=-1' is refused: max_errors takes a number from 0 to 4294967295"),
-    option("to=db", "BadValue", "'to=db' is refused: to takes csv or sqlite"),
+    option("to=db", "BadValue", "'to=db' is refused: to takes csv, sqlite or npz"),
     option(
         "table=sqlite_x",
         "BadValue",

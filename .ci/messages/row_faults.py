@@ -279,6 +279,12 @@ PASSED = [
         "csvload: f.csv: 2 faults were passed over; load with store_rejects=true lists them\n",
     ),
     passed(["convert", "to=sqlite", "ignore_errors=true"], "csvload: f.csv: 2 faults were passed over; store_rejects=true lists them\n"),
+    passed(["convert", "to=npz", "ignore_errors=true"], "csvload: f.csv: 2 faults were passed over; store_rejects=true lists them\n"),
+    passed(["profile"], "csvload: f.csv: 2 faults were passed over; csvload rejects f.csv lists them\n"),
+    passed(
+        ["profile", "delim=,", "store_rejects=true", "rejects_limit=1", "max_errors=2"],
+        "csvload: f.csv: 2 faults were passed over; csvload rejects f.csv delim=, lists them\n",
+    ),
     passed(["sniff"], ""),
     Case(
         ["batch", "f.csv,f.csv", "ignore_errors=true"],
@@ -291,6 +297,13 @@ PASSED = [
         ["load", "f.csv", "types=BIGINT", "ignore_errors=true"],
         0,
         "csvload: f.csv: 1 fault was passed over; store_rejects=true lists it\n",
+        None,
+        {"f.csv": b"1\nx\n2\n"},
+    ),
+    Case(
+        ["profile", "f.csv", "types=BIGINT", "output=o.csv"],
+        0,
+        "csvload: f.csv: 1 fault was passed over; csvload rejects f.csv types=BIGINT lists it\n",
         None,
         {"f.csv": b"1\nx\n2\n"},
     ),

@@ -19,7 +19,6 @@ import glob
 import os
 import platform
 import re
-import sqlite3
 from collections.abc import Callable, Iterator, Sequence
 from contextlib import contextmanager
 from typing import BinaryIO, Optional, Union
@@ -34,9 +33,10 @@ except ImportError as error:
     lack = "csvload.dask takes Dask: pip install './python[dask]', or Debian's python3-distributed and python3-pandas"
     raise ImportError(lack) from error
 
+from .arrays import Archive, archive_of
 from .finding import Found, found_in
 from .frames import frame_of
-from .reading import database_of, rejects_of, table_of
+from .reading import reject_columns
 from .running import Option, Refused
 from .splitting import Part, Split, check_unchanged, pieces_of, split_of
 
@@ -110,60 +110,60 @@ def size_of(blocksize: Union[str, int]) -> int:
 
 def rows(file: str, place: int, found: Found) -> pandas.DataFrame:
     """The rows of a file."""
-    with loaded(file, place, found) as database:
-        return frame_of(table_of(database))
+    with loaded(file, place, found) as archive:
+        return frame_of(archive)
 
 
 def rows_of_part(part: Part, split: Split) -> pandas.DataFrame:
     """The rows of a part."""
-    with part_loaded(part, split) as database:
-        return frame_of(table_of(database))
+    with part_loaded(part, split) as archive:
+        return frame_of(archive)
 
 
 def faults(file: str, place: int, found: Found) -> pandas.DataFrame:
     """The rejects of a file."""
-    with loaded(file, place, found) as database:
-        frame = faults_of(database)
+    with loaded(file, place, found) as archive:
+        frame = faults_of(archive)
     frame["file_id"] = place
     return frame
 
 
 def faults_of_part(part: Part, split: Split) -> pandas.DataFrame:
     """The rejects of a part, with the file's lines and positions."""
-    with part_loaded(part, split) as database:
-        frame = faults_of(database)
+    with part_loaded(part, split) as archive:
+        frame = faults_of(archive)
     frame["line"] += lines_before(part, split)
     frame[["line_byte_position", "byte_position"]] += part.byte - split.head
     return frame
 
 
-def faults_of(database: sqlite3.Connection) -> pandas.DataFrame:
-    """The rejects of a database."""
-    return pandas.DataFrame(rejects_of(database), columns=list(REJECTS)).astype(REJECTS)
+def faults_of(archive: Archive) -> pandas.DataFrame:
+    """The rejects of an archive."""
+    return pandas.DataFrame(reject_columns(archive), columns=list(REJECTS)).astype(REJECTS)
 
 
 @contextmanager
-def loaded(file: str, place: int, found: Found) -> Iterator[sqlite3.Connection]:
-    """The database of a file, while it is read. `-` has the first file's header alone; a later file is the second of a batch behind
+def loaded(file: str, place: int, found: Found) -> Iterator[Archive]:
+    """The archive of a file, while it is read. `-` has the first file's header alone; a later file is the second of a batch behind
     it, so that names and refusals are those of the program."""
     command = ["batch", f"-,{file}"] + ["same_header=true"] * found.same_header if place else ["convert", file]
     try:
-        with database_of([*command, *found.words], [found.head], worker_folder()) as database:
-            yield database
+        with archive_of([*command, *found.words], [found.head], worker_folder()) as archive:
+            yield archive
     except Refused as refused:
         text = refused.text.replace("the header of standard input", f"the header of '{found.first}'")
         raise of_machine(refused.status, text, file) from None
 
 
 @contextmanager
-def part_loaded(part: Part, split: Split) -> Iterator[sqlite3.Connection]:
-    """The database of a part, while it is read: the head and the part are a file of their own."""
+def part_loaded(part: Part, split: Split) -> Iterator[Archive]:
+    """The archive of a part, while it is read: the head and the part are a file of their own."""
     with opened(split.file) as source:
         check_unchanged(source, split)
         try:
-            with database_of(["convert", "-", *split.words], pieces_of(source, part, split), worker_folder()) as database:
+            with archive_of(["convert", "-", *split.words], pieces_of(source, part, split), worker_folder()) as archive:
                 check_unchanged(source, split)
-                yield database
+                yield archive
         except Refused as refused:
             check_unchanged(source, split)
             raise of_machine(refused.status, placed(refused.text, part, split), split.file) from None

@@ -1,26 +1,20 @@
 """A file as lists of Python's own values."""
 
 import os
-import sqlite3
-import tempfile
-from collections.abc import Callable, Iterable, Iterator, Sequence
-from contextlib import closing, contextmanager
+from collections.abc import Callable
 from dataclasses import dataclass
-from datetime import date, datetime, time
-from typing import Any, Optional, Union
+from datetime import date, datetime, time, timedelta
+from typing import Any, Union
 
-from .running import Option, name_of, run, words_of
+from .arrays import Archive, Column, archive_of, numbers, slices
+from .running import Option, name_of, words_of
 
 Cell = Union[None, bool, int, date, time, datetime, str]
 Reject = dict[str, Union[int, str, bytes]]
 
-# What the database keeps otherwise than Python does. Texts and numbers come as they are.
-CASTS: dict[str, Callable[[Any], Cell]] = {
-    "BOOLEAN": bool,
-    "DATE": date.fromisoformat,
-    "TIME": time.fromisoformat,
-    "TIMESTAMP": datetime.fromisoformat,
-}
+EPOCH, MICROSECOND = datetime(1970, 1, 1), timedelta(microseconds=1)
+# What stands for a null day or time.
+NOT_A_TIME = -(2**63)
 
 
 @dataclass(frozen=True)
@@ -42,8 +36,7 @@ def read(file: Union[str, os.PathLike[str]], **options: Option) -> Table:
 
     A truth value among the options stands for `true` or `false`, a list for its parts with commas between them, a dict for
     pairs. The first faulty row raises Refused, unless `ignore_errors` or `store_rejects` is true; so does all else that the
-    program ends with another status than 0 for. Names that differ in ASCII case alone get a suffix, as in its database, which has
-    at most 2,000 columns.
+    program ends with another status than 0 for. Names that differ in ASCII case alone get a suffix, as in its archives.
 
     >>> import csvload
     >>> scores = csvload.read("scores.csv", comment="#", types=["VARCHAR", "BIGINT", "DATE"], store_rejects=True)
@@ -52,41 +45,75 @@ def read(file: Union[str, os.PathLike[str]], **options: Option) -> Table:
     >>> [(reject["line"], reject["error_type"], reject["csv_line"]) for reject in scores.rejects]
     [(4, 'CAST', 'Bo,three,2024-05-31')]
     """
-    with database_of(["convert", name_of(file), *words_of(options)]) as database:
-        return table_of(database)
+    made = Table({}, {}, [])
+    with archive_of(["convert", name_of(file), *words_of(options)]) as archive:
+        for name, column in archive.columns():
+            made.types[name], made.columns[name] = column.kind, cells_of(column)
+        made.rejects.extend(rejects_of(archive))
+    return made
 
 
-@contextmanager
-def database_of(
-    words: Sequence[str], given: Optional[Iterable[bytes]] = None, folder: Optional[str] = None
-) -> Iterator[sqlite3.Connection]:
-    """The database that the program writes by these words, while it is read; its file lies in the folder, or where temporary ones
-    do. What is given, in pieces, is standard input."""
-    with tempfile.TemporaryDirectory(dir=folder) as made:
-        place = os.path.join(made, "table.db")
-        with open(place, "wb") as into:
-            run([*words, "to=sqlite"], given, into)
-        with closing(sqlite3.connect(place)) as database:
-            yield database
+def texts_of(column: Column) -> list[str]:
+    """The texts of a column, nulls being empty."""
+    if not column.texts.isascii():
+        return [text.decode() for text in slices(column.texts, column.values)]
+    whole, ends = column.texts.decode("ascii"), numbers(column.values)
+    return [whole[start:end] for start, end in zip([0, *ends], ends)]
 
 
-def table_of(database: sqlite3.Connection) -> Table:
-    """The table of a database of the program."""
-    types = {name: kind for _, name, kind, *_ in database.execute("PRAGMA table_info(data)")}
-    # They come by the number of the row, which a column can hide: it can't be asked for by its name.
-    cells = [list(column) for column in zip(*database.execute("SELECT * FROM data"))] or [[] for _ in types]
-    columns = {name: cast_cells(kind, column) for (name, kind), column in zip(types.items(), cells)}
-    return Table(types, columns, rejects_of(database))
+def times_of(column: Column) -> list[int]:
+    """The numbers of days or times, those of nulls being 0."""
+    times = numbers(column.values)
+    return times if column.nulls is None else [0 if it == NOT_A_TIME else it for it in times]
 
 
-def rejects_of(database: sqlite3.Connection) -> list[Reject]:
-    """The stored rejects of a database of the program."""
-    errors = database.execute("SELECT * FROM reject_errors")
-    names = [part[0] for part in errors.description]
-    return [dict(zip(names, error)) for error in errors]
+def days_of(column: Column) -> list[date]:
+    first = EPOCH.toordinal()
+    return [date.fromordinal(first + number) for number in times_of(column)]
 
 
-def cast_cells(kind: str, cells: list[Any]) -> list[Cell]:
-    """The cells of a column of this type as Python's values."""
-    cast = CASTS.get(kind)
-    return cells if cast is None else [None if cell is None else cast(cell) for cell in cells]
+def moments_of(column: Column) -> list[datetime]:
+    return [EPOCH + number * MICROSECOND for number in times_of(column)]
+
+
+CELLS: dict[str, Callable[[Column], list[Any]]] = {
+    "BOOLEAN": lambda column: memoryview(column.values).cast("?").tolist(),
+    "BIGINT": lambda column: numbers(column.values),
+    "DATE": days_of,
+    "TIME": lambda column: [moment.time() for moment in moments_of(column)],
+    "TIMESTAMP": moments_of,
+    "VARCHAR": texts_of,
+}
+
+
+def cells_of(column: Column) -> list[Cell]:
+    """The cells of a column."""
+    cells = CELLS[column.kind](column)
+    place = column.nulls.find(1) if column.nulls else -1
+    while place >= 0:
+        cells[place] = None
+        place = column.nulls.find(1, place + 1)
+    return cells
+
+
+def kept(text: bytes) -> Union[str, bytes]:
+    """A text of a reject: its bytes, where it isn't UTF-8."""
+    try:
+        return text.decode()
+    except UnicodeDecodeError:
+        return text
+
+
+def reject_columns(archive: Archive) -> dict[str, list[Union[int, str, bytes]]]:
+    """The stored rejects by their columns; none where they aren't stored."""
+    columns = dict(archive.rejects())
+    return {
+        name: [kept(text) for text in slices(it.texts, it.values)] if it.kind == "VARCHAR" else numbers(it.values)
+        for name, it in columns.items()
+    }
+
+
+def rejects_of(archive: Archive) -> list[Reject]:
+    """The stored rejects."""
+    columns = reject_columns(archive)
+    return [dict(zip(columns, reject)) for reject in zip(*columns.values())]
